@@ -1,0 +1,39 @@
+-- What a test's outcome says, beyond the library's laws: whether a set lies inside another.
+use mathlib.Core.Path.{_≡_, refl}
+use mathlib.Core.Logic.{_⊎_, inl, inr, ⊎-elim}
+use mathlib.Core.Bool.{Bool, true, false}
+use Prim.Native.Nat.{ℕ}
+use lib.Bits.{bitAnd}
+use borrow.Author.Tests.{eqb-true, eqb-false, eq-eqb, ne-eqb}
+use Rattle.meaning.specs.Sets.{_⊆_, Tells}
+use Rattle.meaning.specs.Computed.{isInside}
+use Rattle.meaning.proofs.SetLaws.{inside-and, and-inside}
+
+pub test : (b : Bool) → (b ≡ true) ⊎ (b ≡ false)
+test true = inl refl
+test false = inr refl
+
+pub inside-test : (x g : ℕ) → x ⊆ g → isInside x g ≡ true
+inside-test x g i = eq-eqb (bitAnd x g) x (inside-and x g i)
+
+pub test-inside : (x g : ℕ) → isInside x g ≡ true → x ⊆ g
+test-inside x g e = and-inside x g (eqb-true (bitAnd x g) x e)
+
+pub outside-test : (x g : ℕ) → ¬ (x ⊆ g) → isInside x g ≡ false
+outside-test x g h = ne-eqb (bitAnd x g) x (λ e. h (and-inside x g e))
+
+pub test-outside : (x g : ℕ) → isInside x g ≡ false → ¬ (x ⊆ g)
+test-outside x g e i = eqb-false (bitAnd x g) x e (inside-and x g i)
+
+pub inside-dec : (x g : ℕ) → (x ⊆ g) ⊎ (¬ (x ⊆ g))
+inside-dec x g = ⊎-elim (λ e. inl (test-inside x g e)) (λ e. inr (test-outside x g e)) (test (isInside x g))
+
+pub inside-tells : (x g : ℕ) → Tells (isInside x g) (x ⊆ g)
+inside-tells x g = record { if-true = test-inside x g; if-false = test-outside x g }
+
+-- a question has one answer
+pub tells-unique : {P : Type 0} (a b : Bool) → Tells a P → Tells b P → a ≡ b
+tells-unique true true t u = refl
+tells-unique true false t u = absurd (u .if-false refl (t .if-true refl))
+tells-unique false true t u = absurd (t .if-false refl (u .if-true refl))
+tells-unique false false t u = refl

@@ -1,0 +1,11 @@
+pub mod Sets
+pub mod Domain
+pub mod Runs
+pub mod Walk
+pub mod Order
+pub mod Listing
+pub mod Answers
+pub mod Enumeration
+pub mod Computed
+pub mod Progress
+pub mod Examples
