@@ -16,7 +16,7 @@ use Rattle.meaning.specs.Domain.{Domain, WellFormed, Start}
 use Rattle.meaning.specs.Runs.{Good}
 use Rattle.meaning.specs.Walk.{Walked, ended, blocked, walk, step, Gives, Solves}
 use Rattle.meaning.specs.Listing.{At}
-use Rattle.meaning.specs.Answers.{good, refused, Judged, judged, AllCommands, NoCommand, NotSendable, Judges}
+use Rattle.meaning.specs.Answers.{Verdict, good, plan, noPlan, refused, Judged, judged, AllCommands, NoCommand, NotSendable, Judges}
 use Rattle.meaning.specs.Computed.{firstMissing, byWalk, unlessMissing, judge}
 use Rattle.meaning.proofs.Tests.{inside-test, outside-test, inside-dec}
 use Rattle.meaning.proofs.StepLaws.{step-some, command-lt, image-some}
@@ -137,6 +137,19 @@ module _ (D : Domain) (x g : ℕ) (p : List ℕ) where
       walked : {w : Walked} → AllCommands (D .commands) p → walk (step D) x p ≡ w → judge D x g p ≡ byWalk g (length p) w
       walked all e = ap (λ (o : Option ℕ). unlessMissing o rest) (none-missing (D .commands) 0 p all) ∙ ap (byWalk g (length p)) e
 
+  -- how a judge shows its answer: by what it knows where it ends
+  pub judges-no-command : {k : ℕ} → NoCommand (D .commands) p k → Judges D x g p (judged (refused 10) k empty)
+  judges-no-command n = subst (Judges D x g p) (judge-meets .no-command n) judge-meets
+
+  pub judges-not-sendable : {k y : ℕ} → AllCommands (D .commands) p → NotSendable D x p k y → Judges D x g p (judged (refused 11) k y)
+  judges-not-sendable all n = subst (Judges D x g p) (judge-meets .not-sendable all n) judge-meets
+
+  pub judges-outside : {y : ℕ} → AllCommands (D .commands) p → Gives (step D) x p y → ¬ (y ⊆ g) → Judges D x g p (judged (refused 12) (length p) y)
+  judges-outside all s h = subst (Judges D x g p) (judge-meets .outside all s h) judge-meets
+
+  pub judges-inside : {y : ℕ} → AllCommands (D .commands) p → Gives (step D) x p y → y ⊆ g → Judges D x g p (judged good 0 y)
+  judges-inside all s h = subst (Judges D x g p) (judge-meets .inside all s h) judge-meets
+
   -- ---- each refusal is given exactly when the scope says so
 
   module _ {j : Judged} (u : Judges D x g p j) where
@@ -194,3 +207,15 @@ judged-good D ok {x} {g} {p} {j} st u = go (judged-as D x g p u)
     go (not-sendable all n f) = neither f (λ v. blocked-ne-ended (sym (at-blocked (step D) _ p (n .at-index) (n .gives) (n .no-image)) ∙ v .gives .walked))
     go (outside all s h f) = neither f (λ v. h (subst (λ (y : ℕ). y ⊆ g) (gives-fun (step D) (v .gives) s) (v .inside)))
     go (inside all s h f) = (λ e. solves-good D ok (st .within) (record { last = _; gives = s; inside = h }), λ v. ap (λ (i : Judged). i .verdict) f)
+
+verdict-good : (v : Verdict) → (v ≡ good) ⊎ (¬ (v ≡ good))
+verdict-good good = inl refl
+verdict-good plan = inr (λ e. let z : _≡_ {A = ℕ} 0 1 = cc in omega arith)
+verdict-good noPlan = inr (λ e. let z : _≡_ {A = ℕ} 0 1 = cc in omega arith)
+verdict-good (refused n) = inr refused-not-good
+
+-- so it can be decided whether a plan is good
+pub good-dec : (D : Domain) → WellFormed D → {x : ℕ} → Start D x → (g : ℕ) (p : List ℕ) → Good D x g p ⊎ (¬ Good D x g p)
+good-dec D ok {x} st g p =
+    let iff = judged-good D ok st (judge-meets D x g p) in
+    ⊎-elim (λ e. inl (iff .0 e)) (λ n. inr (λ v. n (iff .1 v))) (verdict-good (judge D x g p .verdict))

@@ -5,7 +5,7 @@ use mathlib.Core.Option.{some, Option·none-ne-some, Option·some-injective}
 use mathlib.Core.List.{List, [], _∷_, _++_, map}
 use Prim.Native.Nat.{ℕ, zero, suc, _<_, zero-le, suc-le-suc}
 use native.Mathlib.Nat.{le-of-suc-le-suc, not-suc-le-zero, suc-inj, suc-ne-zero}
-use lib.ListN.{length, take}
+use lib.ListN.{length, take, getD}
 use Rattle.meaning.specs.Order.{Before}
 use Rattle.meaning.specs.Listing.{Entry, At, Sorted}
 use Rattle.meaning.proofs.OrderLaws.{before-irrefl, before-asym, compare3}
@@ -68,6 +68,14 @@ module _ {A : Type 0} where
   take-lt [] {e = e} (suc c) h = absurd (Option·none-ne-some e (h .held))
   take-lt (f ∷ l) {k = zero} (suc c) h = suc-le-suc zero-le
   take-lt (f ∷ l) {k = suc k} (suc c) h = suc-le-suc (take-lt l c (tail-at h))
+
+  pub getD-at : (l : List A) (d : A) (k : ℕ) → k < length l → At l k (getD l k d)
+  getD-at [] d k h = absurd (not-suc-le-zero h)
+  getD-at (f ∷ l) d zero h = at-head f l
+  getD-at (f ∷ l) d (suc k) h = at-tail f (getD-at l d k (le-of-suc-le-suc h))
+
+  pub at-getD : {l : List A} {k : ℕ} {e : A} (d : A) → At l k e → getD l k d ≡ e
+  at-getD {l} {k} d u = at-fun (getD-at l d k (at-lt u)) u
 
   -- two lists are equal that are as long and agree at each place
   pub at-ext : (l r : List A) → length l ≡ length r → ((k : ℕ) (e f : A) → At l k e → At r k f → e ≡ f) → l ≡ r

@@ -177,6 +177,17 @@ command-lt D ok {x} {a} st i = lt-of-not-le λ (l : D .commands ≤ a).
     let s = some-member (D .states) x (st .within) (st .some-state) in
     i .taken (s .0) (s .1) (ok .no-other a (s .0) l)
 
+-- ---- a step by the two functions
+
+module _ (D : Domain) (x a : ℕ) where
+  pub step-sends : sendable (D .follow a) x (D .states) ≡ true → step D x a ≡ some (image (D .follow a) x (D .states))
+  unfolding step
+  step-sends e = ap (λ (b : Bool). cond b (some (image (D .follow a) x (D .states))) none) e
+
+  pub step-stops : sendable (D .follow a) x (D .states) ≡ false → step D x a ≡ none
+  unfolding step
+  step-stops e = ap (λ (b : Bool). cond b (some (image (D .follow a) x (D .states))) none) e
+
 -- ---- one turn of a loop over the states
 
 pub image-turn-in : (f : ℕ → ℕ) (x k : ℕ) → bit k x ≡ 1 → image f x (k + 1) ≡ union (image f x k) (f k)

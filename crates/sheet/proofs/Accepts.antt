@@ -1,0 +1,77 @@
+-- What it is for bytes to be accepted: the version and the stated length are right, and the sheet that the bytes hold is valid.
+-- Assumes nothing.
+use mathlib.Core.Path.{_≡_, refl, sym, ap, _∙_}
+use mathlib.Core.Bool.{not}
+use mathlib.Core.List.{List}
+use Prim.Native.Nat.{ℕ, _+_, _*_}
+use native.Mathlib.Omega.{arith}
+use lib.Dec.{eqb, ltb}
+use lib.ListN.{length}
+use borrow.Author.Tests.{le-ltb, eq-eqb, eqb-true, not-false}
+use Rattle.sheet.specs.Bytes.{numberAt}
+use Rattle.sheet.specs.Sheet.{Valid, sheetIn, setIn, countedAt, statedFor, lengthFor, version, shortest}
+use Rattle.sheet.specs.Refusals.{verdict, isUneven, headOf, stated, readingRows}
+use Rattle.sheet.specs.Answers.{reading}
+use Rattle.sheet.specs.declared.Head.{Head}
+use Rattle.sheet.specs.declared.Reading.the-variants.{Accepted, Refused}
+use Rattle.sheet.specs.declared.Check.{Check}
+use Rattle.sheet.specs.declared.Check.the-variants.{Passed, Failed}
+use Rattle.sheet.proofs.Rows.{onCheck, by-check, or-false, both-false, length-from}
+use Rattle.sheet.proofs.ValidLaws.{NoneHold, none-here, none-rest, none-cons, valid, even, passes-valid}
+
+pub record Accepts (l : List ℕ) : Type 0 where
+  pub version-is : numberAt 0 1 l ≡ version
+  pub stated-is : stated l ≡ statedFor (sheetIn l .states) (sheetIn l .commands)
+  pub long : length l ≡ lengthFor (sheetIn l .states) (sheetIn l .commands)
+  pub is-valid : Valid (sheetIn l)
+
+complete : (l : List ℕ) → length (sheetIn l .sets) ≡ sheetIn l .commands * sheetIn l .states
+unfolding sheetIn
+complete l = length-from (setIn l) 0 (sheetIn l .commands * sheetIn l .states)
+
+pub none-accepts : (l : List ℕ) → NoneHold (readingRows l) → Accepts l
+unfolding readingRows
+none-accepts l n =
+    let n₁ = none-rest n in
+    let n₂ = none-rest n₁ in
+    let n₃ = none-rest n₂ in
+    let whole : countedAt + stated l ≡ length l = eqb-true (countedAt + stated l) (length l) (not-false _ (or-false (not (eqb (countedAt + stated l) (length l))) (ltb (stated l) shortest) (none-here n₂) .0)) in
+    let evenly : stated l ≡ statedFor (sheetIn l .states) (sheetIn l .commands) = eqb-true (stated l) (statedFor (sheetIn l .states) (sheetIn l .commands)) (not-false _ (even (isUneven (stated l) (headOf (sheetIn l))) (sheetIn l) n₃)) in
+    record {
+      version-is = eqb-true (numberAt 0 1 l) version (not-false _ (none-here n₁));
+      stated-is = evenly;
+      long = omega arith;
+      is-valid = valid (isUneven (stated l) (headOf (sheetIn l))) (sheetIn l) (complete l) n₃;
+    }
+
+pub accepts-none : (l : List ℕ) → Accepts l → NoneHold (readingRows l)
+unfolding readingRows
+accepts-none l a =
+    none-cons (le-ltb (length l) countedAt (omega (arith, a .long)))
+    (none-cons (ap not (eq-eqb (numberAt 0 1 l) version (a .version-is)))
+    (none-cons (both-false (ap not (eq-eqb (countedAt + stated l) (length l) (omega (arith, a .long, a .stated-is)))) (le-ltb (stated l) shortest (omega (arith, a .stated-is))))
+    (passes-valid (isUneven (stated l) (headOf (sheetIn l))) (sheetIn l) (ap not (eq-eqb (stated l) (statedFor (sheetIn l .states) (sheetIn l .commands)) (a .stated-is))) (a .is-valid))))
+
+-- ---- the answer
+
+read-by : (l : List ℕ) → reading l ≡ onCheck Refused (Accepted (headOf (sheetIn l))) (verdict Failed Passed (readingRows l))
+unfolding reading
+read-by l = by-check Refused (Accepted (headOf (sheetIn l))) (readingRows l)
+
+pub accepts-reading : (l : List ℕ) → Accepts l → reading l ≡ Accepted (headOf (sheetIn l))
+accepts-reading l a = read-by l ∙ ap (λ (k : Check). onCheck Refused (Accepted (headOf (sheetIn l))) k) (accepts-none l a .passes)
+
+pub record Taken (l : List ℕ) (h : Head) : Type 0 where
+  pub accepts : Accepts l
+  pub head : h ≡ headOf (sheetIn l)
+
+pub reading-accepts : (l : List ℕ) (h : Head) → reading l ≡ Accepted h → Taken l h
+reading-accepts l h e = go (verdict Failed Passed (readingRows l)) refl
+  where
+    go : (k : Check) → verdict Failed Passed (readingRows l) ≡ k → Taken l h
+    go Passed p =
+        let f : Accepted (headOf (sheetIn l)) ≡ Accepted h = sym (read-by l ∙ ap (λ (k : Check). onCheck Refused (Accepted (headOf (sheetIn l))) k) p) ∙ e in
+        record { accepts = none-accepts l (record { passes = p }); head = cc }
+    go (Failed q) p =
+        let f : Refused q ≡ Accepted h = sym (read-by l ∙ ap (λ (k : Check). onCheck Refused (Accepted (headOf (sheetIn l))) k) p) ∙ e in
+        absurd (let z : _≡_ {A = ℕ} 0 1 = cc in omega arith)

@@ -1,0 +1,65 @@
+-- An accepted sheet's domain is well formed, its initial set is one to start from, and its goal names no missing state.
+-- The idea: these are parts of what makes a sheet valid.
+-- Assumes nothing.
+use mathlib.Core.Path.{_≡_, sym, ap, subst}
+use mathlib.Core.Bool.{Bool, true, false, cond, _&&_}
+use mathlib.Core.List.{List}
+use Prim.Native.Nat.{ℕ, _+_, _*_, _^_, _≤_, _<_}
+use lib.Dec.{ltb}
+use lib.Pow.{pow-pos}
+use lib.ListN.{length, getD}
+use borrow.Author.Tests.{le-ltb}
+use Rattle.meaning.specs.Domain.{Within, WellFormed, Start}
+use Rattle.sheet.specs.Sheet.{Sheet, Valid, sheetIn, domain, domainIn, lengthFor}
+use Rattle.sheet.specs.Answers.{reading}
+use Rattle.sheet.specs.declared.Head.{Head}
+use Rattle.sheet.specs.declared.Reading.the-variants.{Accepted}
+use Rattle.sheet.proofs.Accepts.{reading-accepts}
+
+pub valid-well-formed : (s : Sheet) → Valid s → WellFormed (domain s)
+unfolding domain
+valid-well-formed s v = record { rows = λ a t h. pick (ltb a (s .commands) && ltb t (s .states)) (a * s .states + t); no-other = λ a t h. simp (le-ltb a (s .commands) h) }
+  where
+    pick : (b : Bool) (i : ℕ) → cond b (getD (s .sets) i 0) 0 < 2 ^ s .states
+    pick true i = v .sets-within i
+    pick false i = pow-pos (s .states)
+
+module _ (l : List ℕ) (h : Head) (e : reading l ≡ Accepted h) where
+  pub domain-well-formed : WellFormed (domainIn l)
+  domain-well-formed = valid-well-formed (sheetIn l) (reading-accepts l h e .accepts .is-valid)
+
+  -- the head's counts are the domain's
+  pub domain-states : domainIn l .states ≡ h .states
+  unfolding domain
+  domain-states = sym (ap (λ (g : Head). g .states) (reading-accepts l h e .head))
+
+  pub domain-commands : domainIn l .commands ≡ h .commands
+  unfolding domain
+  domain-commands = sym (ap (λ (g : Head). g .commands) (reading-accepts l h e .head))
+
+  pub initial-start : Start (domainIn l) (h .initial)
+  unfolding domain
+  initial-start =
+      let t = reading-accepts l h e in
+      let v = t .accepts .is-valid in
+      subst (λ (g : Head). Start (domainIn l) (g .initial)) (sym (t .head)) (record { within = v .initial-within; some-state = v .initial-some })
+
+  pub goal-within : Within (domainIn l) (h .goal)
+  unfolding domain
+  goal-within =
+      let t = reading-accepts l h e in
+      subst (λ (g : Head). Within (domainIn l) (g .goal)) (sym (t .head)) (t .accepts .is-valid .goal-within)
+
+-- what a caller may rely on in an accepted sheet's head
+pub record HeadFits (l : List ℕ) (h : Head) : Type 0 where
+  pub some-state : 1 ≤ h .states
+  pub states-fit : h .states ≤ 64
+  pub some-command : 1 ≤ h .commands
+  pub commands-fit : h .commands ≤ 32
+  pub long : length l ≡ lengthFor (h .states) (h .commands)
+
+pub head-fits : (l : List ℕ) (h : Head) → reading l ≡ Accepted h → HeadFits l h
+head-fits l h e =
+    let t = reading-accepts l h e in
+    let v = t .accepts .is-valid in
+    subst (λ (g : Head). HeadFits l g) (sym (t .head)) (record { some-state = v .some-state; states-fit = v .states-fit; some-command = v .some-command; commands-fit = v .commands-fit; long = t .accepts .long })

@@ -1,0 +1,63 @@
+-- Reading, step by step: what the checks of rows 1 to 3, of the head and of the following sets each say of the answer.
+-- The idea: the rows in the table's order, of which each check passes some.
+-- Assumes nothing.
+use mathlib.Core.Path.{_≡_, sym, ap, _∙_}
+use mathlib.Core.List.{List, map}
+use Prim.Native.Nat.{ℕ, _+_, _*_, _≤_}
+use native.Mathlib.Omega.{arith}
+use lib.ListN.{length, getD}
+use borrow.Author.Tests.{le-ltb, eq-eqb, eqb-true, not-false}
+use Rattle.sheet.specs.Sheet.{Sheet, sheetIn, setsAt, countedAt, shortest, setIn, from, statedFor}
+use Rattle.sheet.specs.Refusals.{Row, verdict, isUneven, headRows, headOf, setRows, sheetRows, stated, readingRows}
+use Rattle.sheet.specs.Answers.{reading}
+use Rattle.sheet.specs.declared.Head.{Head}
+use Rattle.sheet.specs.declared.Reading.{Reading}
+use Rattle.sheet.specs.declared.Reading.the-variants.{Accepted, Refused}
+use Rattle.sheet.specs.declared.Check.{Check}
+use Rattle.sheet.specs.declared.Check.the-variants.{Passed, Failed}
+use Rattle.sheet.proofs.Numbers.{numberAt-one}
+use Rattle.sheet.proofs.Rows.{onCheck, checked, by-check, passes-here, passes-rest, product, most}
+
+-- rows 4 to 7 by a stated length
+abbrev pub headRowsBy : ℕ → Head → List Row
+headRowsBy n h = headRows (isUneven n h) h
+
+abbrev pub sheetRowsBy : ℕ → Sheet → List Row
+sheetRowsBy n s = sheetRows (isUneven n (headOf s)) s
+
+-- a head that passes has the length that was stated
+pub head-even : (n : ℕ) (h : Head) → verdict Failed Passed (headRowsBy n h) ≡ Passed → n ≡ statedFor (h .states) (h .commands)
+unfolding headRows
+head-even n h e = eqb-true n (statedFor (h .states) (h .commands)) (not-false _ (passes-here _ _ (passes-rest _ _ (passes-rest _ _ e))))
+
+-- and counts that fit
+pub head-fits : (n : ℕ) (h : Head) → verdict Failed Passed (headRowsBy n h) ≡ Passed → h .commands * h .states ≤ 2048
+unfolding headRows
+head-fits n h e = product (most 1 32 (h .commands) (passes-here _ _ (passes-rest _ _ e))) (most 1 64 (h .states) (passes-here _ _ e))
+
+module _ (l : List ℕ) where
+  -- the answer by rows 4 to 8
+  abbrev pub answerBy : ℕ → Reading
+  answerBy n = verdict Refused (Accepted (headOf (sheetIn l))) (sheetRowsBy n (sheetIn l))
+
+  -- the answer by row 8
+  abbrev pub answerBySets : Reading
+  answerBySets = verdict Refused (Accepted (headOf (sheetIn l))) (setRows (sheetIn l .states) setsAt (sheetIn l .sets))
+
+  -- rows 1 to 3 pass
+  pub reading-on : countedAt ≤ length l → getD l 0 0 ≡ 1 → countedAt + stated l ≡ length l → shortest ≤ stated l → reading l ≡ answerBy (stated l)
+  unfolding reading readingRows verdict
+  reading-on h v s m = simp (le-ltb _ _ h, numberAt-one 0 l (omega arith), eq-eqb _ _ v, eq-eqb _ _ s, le-ltb _ _ m)
+
+  module _ (h : Head) (same : h ≡ headOf (sheetIn l)) where
+    pub by-head : (n : ℕ) (k : Check) → k ≡ verdict Failed Passed (headRowsBy n h) → answerBy n ≡ onCheck Refused answerBySets k
+    by-head n k e =
+        checked Refused (Accepted (headOf (sheetIn l))) (headRowsBy n (headOf (sheetIn l))) (setRows (sheetIn l .states) setsAt (sheetIn l .sets))
+        ∙ ap (λ (c : Check). onCheck Refused answerBySets c) (ap (λ (g : Head). verdict Failed Passed (headRowsBy n g)) (sym same) ∙ sym e)
+
+    pub by-sets : (k : Check) → k ≡ verdict Failed Passed (setRows (h .states) setsAt (map (setIn l) (from 0 (h .commands * h .states)))) → answerBySets ≡ onCheck Refused (Accepted h) k
+    unfolding sheetIn
+    by-sets k e =
+        by-check Refused (Accepted (headOf (sheetIn l))) (setRows (sheetIn l .states) setsAt (sheetIn l .sets))
+        ∙ ap (λ (c : Check). onCheck Refused (Accepted (headOf (sheetIn l))) c) (ap (λ (g : Head). verdict Failed Passed (setRows (g .states) setsAt (map (setIn l) (from 0 (g .commands * g .states))))) (sym same) ∙ sym e)
+        ∙ ap (λ (g : Head). onCheck Refused (Accepted g) k) (sym same)

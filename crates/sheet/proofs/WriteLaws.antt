@@ -1,0 +1,97 @@
+-- Writing, step by step: what the checks of the head and of the following sets say of the answer and of the output, and the output with a sheet stored in it.
+-- The idea: answer and output go by the same rows, so one law over what is answered serves both.
+-- Assumes nothing.
+use mathlib.Core.Path.{_≡_, refl, sym, ap, ap₂, _∙_}
+use mathlib.Core.Bool.{Bool, true, false, not}
+use mathlib.Core.List.{List, [], _∷_, _++_, map, append-assoc}
+use Prim.Native.Nat.{ℕ, _+_, _*_, _≤_, _<_}
+use native.Mathlib.Nat.{zero-add}
+use native.Mathlib.Omega.{arith}
+use lib.Dec.{eqb}
+use lib.ListN.{length, drop}
+use lib.Seq.{sets, sets-eq}
+use borrow.Author.Tests.{lt-ltb, le-ltb, eq-eqb, ne-eqb, eqb-true, eqb-false}
+use Rattle.sheet.specs.Sheet.{Sheet, field, fields, headFields, laid, encode, setsAt, setWidth, shortest, lengthFor}
+use Rattle.sheet.specs.Refusals.{Row, verdict, headOf, headRows, setRows, roomRow, writingRows}
+use Rattle.sheet.specs.Answers.{writingBy, writtenBy}
+use Rattle.sheet.specs.declared.Refusal.{Refusal}
+use Rattle.sheet.specs.declared.Writing.the-variants.{Written, Refused}
+use Rattle.sheet.specs.declared.Check.{Check}
+use Rattle.sheet.specs.declared.Check.the-variants.{Passed, Failed}
+use Rattle.sheet.proofs.Rows.{onCheck, checked}
+use Rattle.sheet.proofs.ReadLaws.{headRowsBy}
+use Rattle.sheet.proofs.Stores.{length-laid, widths-sets, fields-stored}
+
+-- the number of sets is right exactly where the length that it gives is
+pub even-length : (a b : ℕ) → eqb a b ≡ eqb (shortest + setWidth * a) (shortest + setWidth * b)
+even-length a b = go (eqb a b) refl
+  where
+    go : (t : Bool) → eqb a b ≡ t → eqb a b ≡ eqb (shortest + setWidth * a) (shortest + setWidth * b)
+    go true e = e ∙ sym (eq-eqb (shortest + setWidth * a) (shortest + setWidth * b) (ap (λ (n : ℕ). shortest + setWidth * n) (eqb-true a b e)))
+    go false e = e ∙ sym (ne-eqb (shortest + setWidth * a) (shortest + setWidth * b) (λ f. eqb-false a b e (omega (arith, f))))
+
+-- whatever is answered by the rows of writing, with the length of the output
+module _ {A : Type 0} (refused : Refusal → A) (otherwise : A) (s : Sheet) (room : ℕ) where
+  -- the checks of the head and of the following sets, and the answer by row 9
+  abbrev pub headCheck : Check
+  headCheck = verdict Failed Passed (headRowsBy (shortest + setWidth * length (s .sets)) (headOf s))
+
+  abbrev pub setsCheck : Check
+  setsCheck = verdict Failed Passed (setRows (s .states) setsAt (s .sets))
+
+  abbrev pub byRoom : A
+  byRoom = verdict refused otherwise (roomRow s room ∷ [])
+
+  by-checks : verdict refused otherwise (writingRows s room) ≡ onCheck refused (onCheck refused byRoom setsCheck) headCheck
+  unfolding writingRows
+  by-checks =
+      ap (λ (b : Bool). verdict refused otherwise ((headRows (not b) (headOf s) ++ setRows (s .states) setsAt (s .sets)) ++ (roomRow s room ∷ []))) (even-length (length (s .sets)) (s .commands * s .states))
+      ∙ ap (λ (rs : List Row). verdict refused otherwise rs) (append-assoc (headRowsBy (shortest + setWidth * length (s .sets)) (headOf s)) (setRows (s .states) setsAt (s .sets)) (roomRow s room ∷ []))
+      ∙ checked refused otherwise (headRowsBy (shortest + setWidth * length (s .sets)) (headOf s)) (setRows (s .states) setsAt (s .sets) ++ (roomRow s room ∷ []))
+      ∙ ap (λ (a : A). onCheck refused a headCheck) (checked refused otherwise (setRows (s .states) setsAt (s .sets)) (roomRow s room ∷ []))
+
+  pub head-fails : (q : Refusal) → headCheck ≡ Failed q → verdict refused otherwise (writingRows s room) ≡ refused q
+  head-fails q e = by-checks ∙ ap (λ (k : Check). onCheck refused (onCheck refused byRoom setsCheck) k) e
+
+  pub sets-fail : headCheck ≡ Passed → (q : Refusal) → setsCheck ≡ Failed q → verdict refused otherwise (writingRows s room) ≡ refused q
+  sets-fail e q f = by-checks ∙ ap₂ (λ (k j : Check). onCheck refused (onCheck refused byRoom j) k) e f
+
+  pub both-pass : headCheck ≡ Passed → setsCheck ≡ Passed → verdict refused otherwise (writingRows s room) ≡ byRoom
+  both-pass e f = by-checks ∙ ap₂ (λ (k j : Check). onCheck refused (onCheck refused byRoom j) k) e f
+
+-- ---- a whole sheet, stored
+
+pub length-encode : (s : Sheet) → length (s .sets) ≡ s .commands * s .states → length (encode s) ≡ lengthFor (s .states) (s .commands)
+length-encode s e = length-laid (fields s) ∙ omega (arith, widths-sets (s .sets))
+
+-- the head, and then the following sets
+pub sheet-stored : (s : Sheet) → length (s .sets) ≡ s .commands * s .states → (out : List ℕ) → lengthFor (s .states) (s .commands) ≤ length out
+    → sets (sets out 0 (laid (headFields (s .states) (s .commands) (s .initial) (s .goal)))) setsAt (laid (map (field setWidth) (s .sets)))
+    ≡ encode s ++ drop (lengthFor (s .states) (s .commands)) out
+sheet-stored s e out h =
+    fields-stored out 0 (headFields (s .states) (s .commands) (s .initial) (s .goal)) (map (field setWidth) (s .sets))
+    ∙ sets-eq (encode s) out 0 (omega (arith, length-encode s e))
+    ∙ ap (λ (n : ℕ). encode s ++ drop n out) (zero-add (length (encode s)) ∙ length-encode s e)
+
+-- ---- row 9, for a sheet with all its following sets
+
+module _ (s : Sheet) (e : length (s .sets) ≡ s .commands * s .states) (out : List ℕ) where
+  needed : setsAt + setWidth * length (s .sets) ≡ lengthFor (s .states) (s .commands)
+  needed = ap (λ (n : ℕ). setsAt + setWidth * n) e
+
+  -- there is no room: the answer, and the output as it was
+  pub no-room : length out < setsAt + setWidth * length (s .sets)
+      → (Refused (record { number = 9; place = setsAt + setWidth * length (s .sets) }) ≡ writingBy (roomRow s (length out) ∷ []) s) × (out ≡ writtenBy (roomRow s (length out) ∷ []) s out)
+  unfolding verdict
+  no-room h =
+      let t = lt-ltb (length out) (lengthFor (s .states) (s .commands)) (omega (arith, h, needed)) in
+      (ap (λ (n : ℕ). Refused (record { number = 9; place = n })) needed ∙ simp t, simp t)
+
+  pub room : setsAt + setWidth * length (s .sets) ≤ length out
+      → (Written (setsAt + setWidth * length (s .sets)) ≡ writingBy (roomRow s (length out) ∷ []) s)
+      × (sets (sets out 0 (laid (headFields (s .states) (s .commands) (s .initial) (s .goal)))) setsAt (laid (map (field setWidth) (s .sets))) ≡ writtenBy (roomRow s (length out) ∷ []) s out)
+  unfolding verdict
+  room h =
+      let l : lengthFor (s .states) (s .commands) ≤ length out = omega (arith, h, needed) in
+      let t = le-ltb (length out) (lengthFor (s .states) (s .commands)) l in
+      (ap Written needed ∙ simp t, sheet-stored s e out l ∙ simp t)

@@ -1,0 +1,16 @@
+-- `sheet::commands` meets its contract: it is a part of the head.
+-- Assumes nothing.
+use mathlib.Core.Path.{ap}
+use Rattle.sheet.specs.declared.Head.{Head}
+use borrow.Author.Needs.{needs}
+use Rattle.sheet.proofs.commands.Statement.{statement}
+use Rattle.sheet.proofs.commands.Tie as tie
+
+shown-head-requires : tie.Need-shown-head-requires
+shown-head-requires c κs = search needs
+
+returns : tie.Need-returns
+returns c = ap (λ (h : Head). h .commands) (c .shown-head .ensures)
+
+pub commands-spec : {M : Type 1} → statement M
+commands-spec = tie.close (tie.spec shown-head-requires returns)

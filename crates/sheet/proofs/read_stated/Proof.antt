@@ -1,0 +1,126 @@
+-- `sheet::read_stated` meets its contract: the answer goes by the check of the head and then by the check of the following sets.
+-- Assumes nothing.
+use mathlib.Core.Path.{_≡_, sym, ap, _∙_}
+use mathlib.Core.List.{List}
+use Prim.Native.Nat.{ℕ, _*_, _≤_}
+use native.Mathlib.Nat.{mul-le-mul}
+use native.Mathlib.Omega.{arith}
+use denote.Ref.{now}
+use Rattle.sheet.specs.Sheet.{sheetIn}
+use Rattle.sheet.specs.Refusals.{headOf, headWith}
+use Rattle.sheet.specs.declared.Head.{Head}
+use Rattle.sheet.specs.declared.Check.{Check}
+use Rattle.sheet.specs.declared.Reading.the-variants.{Accepted, Refused}
+use Rattle.sheet.proofs.Numbers.{numberAt-one}
+use Rattle.sheet.proofs.Rows.{onCheck}
+use Rattle.sheet.proofs.ReadLaws.{answerBy, answerBySets, by-head, by-sets, head-even}
+use borrow.Author.Needs.{needs}
+use Rattle.sheet.proofs.read_stated.Statement.{statement}
+use Rattle.sheet.proofs.read_stated.Tie as tie
+
+-- after the check of the head: the sheet, the stated length and the head
+abbrev L : tie.After-check-head → List ℕ
+L c = now (c .before .before .before .before .before .before .before .before .args .sheet)
+
+abbrev N : tie.After-check-head → ℕ
+N c = c .before .before .before .before .before .before .before .before .args .stated
+
+abbrev H : tie.After-check-head → Head
+H c = headWith (c .before .before .before .before .before .wide .result) (c .before .before .before .wide2 .result) (c .before .before .eight .result) (c .before .eight2 .result)
+
+same : (c : tie.After-check-head) → H c ≡ headOf (sheetIn (L c))
+unfolding sheetIn
+same c = λ i. record {
+  states = (c .before .before .before .before .before .wide .ensures .0 ∙ sym (numberAt-one 5 (L c) (omega arith))) i;
+  commands = (c .before .before .before .wide2 .ensures .0 ∙ sym (numberAt-one 6 (L c) (omega arith))) i;
+  initial = (c .before .before .eight .ensures) i;
+  goal = (c .before .eight2 .ensures) i;
+}
+
+bytes : (c : tie.After-check-head) → c .before .before .before .wide2 .result * c .before .before .before .before .before .wide .result ≤ 255 * 255
+bytes c = mul-le-mul {n₂ = 255} {m₂ = 255} (omega arith) (omega arith)
+
+-- where the head passed
+passed : (c : tie.After-enum-told) → answerBy (L (c .before .before)) (N (c .before .before)) ≡ answerBySets (L (c .before .before))
+passed c =
+    let k = c .before .before in
+    by-head (L k) (H k) (same k) (N k) (k .check-head .result) (k .check-head .ensures) ∙ ap (λ (o : Check). onCheck Refused (answerBySets (L k)) o) (c .enum-told .given .1)
+
+shared-slice-read-wide : tie.Need-shared-slice-read-wide
+shared-slice-read-wide c = search needs
+
+wide-requires : tie.Need-wide-requires
+wide-requires c κs = search needs
+
+shared-slice-read-wide-2 : tie.Need-shared-slice-read-wide-2
+shared-slice-read-wide-2 c = search needs
+
+wide-requires-2 : tie.Need-wide-requires-2
+wide-requires-2 c κs = search needs
+
+eight-requires : tie.Need-eight-requires
+eight-requires c κs = search needs
+
+eight-requires-2 : tie.Need-eight-requires-2
+eight-requires-2 c κs = search needs
+
+check-head-requires : tie.Need-check-head-requires
+check-head-requires c κs = search needs
+
+enum-known-r : tie.Need-enum-known-r
+enum-known-r c = search needs
+
+enum-told : tie.Need-enum-told
+enum-told c = search needs
+
+mul-check-sets : tie.Need-mul-check-sets
+mul-check-sets c = omega (arith, bytes (c .before .before))
+
+check-sets-requires : tie.Need-check-sets-requires
+check-sets-requires c κs =
+    let k = c .before .before in
+    omega (arith, head-even (N k) (H k) (sym (k .check-head .ensures) ∙ c .enum-told .given .1))
+
+enum-known-r-2 : tie.Need-enum-known-r-2
+enum-known-r-2 c = search needs
+
+enum-told-2 : tie.Need-enum-told-2
+enum-told-2 c = search needs
+
+returns : tie.Need-returns
+returns c =
+    let k = c .before .before .before in
+    sym (by-head (L k) (H k) (same k) (N k) (k .check-head .result) (k .check-head .ensures) ∙ ap (λ (o : Check). onCheck Refused (answerBySets (L k)) o) (c .before .r .given .1))
+
+returns-2 : tie.Need-returns-2
+returns-2 c =
+    let m = c .before .before .before in
+    let k = m .before .before .before in
+    sym (passed (m .before) ∙ by-sets (L k) (H k) (same k) (m .check-sets .result) (m .check-sets .ensures) ∙ ap (λ (o : Check). onCheck Refused (Accepted (H k)) o) (c .before .r2 .given .1))
+
+returns-3 : tie.Need-returns-3
+returns-3 c =
+    let m = c .before .before in
+    let k = m .before .before .before in
+    sym (passed (m .before) ∙ by-sets (L k) (H k) (same k) (m .check-sets .result) (m .check-sets .ensures) ∙ ap (λ (o : Check). onCheck Refused (Accepted (H k)) o) (c .enum-told2 .given .1))
+
+pub read-stated-spec : {M : Type 1} → statement M
+read-stated-spec =
+    tie.close
+    (tie.spec
+    shared-slice-read-wide
+    wide-requires
+    shared-slice-read-wide-2
+    wide-requires-2
+    eight-requires
+    eight-requires-2
+    check-head-requires
+    enum-known-r
+    enum-told
+    mul-check-sets
+    check-sets-requires
+    enum-known-r-2
+    enum-told-2
+    returns
+    returns-2
+    returns-3)

@@ -1,0 +1,79 @@
+-- The table of refusals: each row's condition, number and place, in the table's order, for reading (1 to 8) and for writing (4 to 9). The first row whose condition
+-- holds decides.
+use mathlib.Core.Bool.{Bool, cond, not, _||_}
+use mathlib.Core.List.{List, [], _∷_, _++_}
+use Prim.Native.Nat.{ℕ, _+_, _*_, _^_}
+use lib.Dec.{eqb, leb, ltb}
+use lib.ListN.{length}
+use Rattle.sheet.specs.Bytes.{numberAt}
+use Rattle.sheet.specs.Sheet.{Sheet, sheetIn, version, setWidth, statedAt, countedAt, statesAt, commandsAt, initialAt, goalAt, setsAt, shortest, statedFor, lengthFor}
+use Rattle.sheet.specs.declared.Refusal.{Refusal}
+use Rattle.sheet.specs.declared.Head.{Head}
+
+pub record Row : Type 0 where
+  pub holds : Bool
+  pub gives : Refusal
+
+-- its condition, its number and its place
+abbrev pub row : Bool → ℕ → ℕ → Row
+row condition n place = record { holds = condition; gives = record { number = n; place = place } }
+
+-- the refusal of the first row whose condition holds, and `otherwise` where none does
+unfoldable pub verdict : {A : Type 0} → (Refusal → A) → A → List Row → A
+verdict refused otherwise [] = otherwise
+verdict refused otherwise (r ∷ rs) = cond (r .holds) (refused (r .gives)) (verdict refused otherwise rs)
+
+-- n is not one of least .. most
+abbrev pub outside : ℕ → ℕ → ℕ → Bool
+outside least most n = ltb n least || ltb most n
+
+-- the set x names a state at or above the state count
+abbrev pub missing : ℕ → ℕ → Bool
+missing states x = leb (2 ^ states) x
+
+-- ---- the rows, each with its number and place
+
+-- row 8, for the following sets from an offset on
+unfoldable pub setRows : ℕ → ℕ → List ℕ → List Row
+setRows states at [] = []
+setRows states at (x ∷ xs) = row (missing states x) 8 at ∷ setRows states (at + setWidth) xs
+
+-- rows 4 to 7, and with the following sets 4 to 8. `uneven` is the condition of row 5, which reading and writing word each in its way.
+unfoldable pub headRows : Bool → Head → List Row
+headRows uneven h =
+    row (outside 1 64 (h .states)) 4 statesAt ∷
+    row (outside 1 32 (h .commands)) 4 commandsAt ∷
+    row uneven 5 statedAt ∷
+    row (eqb (h .initial) 0 || missing (h .states) (h .initial)) 6 initialAt ∷
+    row (missing (h .states) (h .goal)) 7 goalAt ∷
+    []
+
+abbrev pub headWith : ℕ → ℕ → ℕ → ℕ → Head
+headWith states commands initial goal = record { states = states; commands = commands; initial = initial; goal = goal }
+
+abbrev pub headOf : Sheet → Head
+headOf s = headWith (s .states) (s .commands) (s .initial) (s .goal)
+
+abbrev pub sheetRows : Bool → Sheet → List Row
+sheetRows uneven s = headRows uneven (headOf s) ++ setRows (s .states) setsAt (s .sets)
+
+abbrev pub stated : List ℕ → ℕ
+stated l = numberAt statedAt 4 l
+
+-- row 5's condition by a stated length
+abbrev pub isUneven : ℕ → Head → Bool
+isUneven n h = not (eqb n (statedFor (h .states) (h .commands)))
+
+unfoldable pub readingRows : List ℕ → List Row
+readingRows l =
+    row (ltb (length l) countedAt) 1 (length l) ∷
+    row (not (eqb (numberAt 0 1 l) version)) 2 0 ∷
+    row (not (eqb (countedAt + stated l) (length l)) || ltb (stated l) shortest) 3 statedAt ∷
+    sheetRows (isUneven (stated l) (headOf (sheetIn l))) (sheetIn l)
+
+-- row 9: `room` is the length of the output
+abbrev pub roomRow : Sheet → ℕ → Row
+roomRow s room = row (ltb room (lengthFor (s .states) (s .commands))) 9 (lengthFor (s .states) (s .commands))
+
+unfoldable pub writingRows : Sheet → ℕ → List Row
+writingRows s room = sheetRows (not (eqb (length (s .sets)) (s .commands * s .states))) s ++ (roomRow s room ∷ [])

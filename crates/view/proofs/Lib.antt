@@ -1,0 +1,3 @@
+pub mod ViewLaws
+pub mod Types
+pub mod Jobs

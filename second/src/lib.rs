@@ -1,0 +1,14 @@
+//! Scanner sheets in ordinary Rust: reading, writing, judging a plan, picking the better of two
+//! plans and searching for the shortest one.
+//!
+//! It follows the scope alone and shares no code with the proved crates, so that the two can be
+//! run on the same input and compared.
+
+pub mod better;
+pub mod examples;
+pub mod judge;
+pub mod naive;
+pub mod printing;
+pub mod random;
+pub mod search;
+pub mod sheet;
