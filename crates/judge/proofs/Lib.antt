@@ -1,0 +1,5 @@
+pub mod Turns
+pub mod ByReading
+pub mod Goodness
+pub mod Unique
+pub mod Impostors

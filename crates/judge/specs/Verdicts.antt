@@ -1,0 +1,67 @@
+-- What the judge ensures, by the meaning's statement of its answer; and which of two plans is the better.
+use mathlib.Core.Path.{_≡_}
+use mathlib.Core.List.{List, []}
+use denote.Ref.{RefT}
+use Prim.Native.Nat.{ℕ, _≤_, _<_}
+use lib.ListN.{length}
+use Rattle.meaning.specs.Answers as answers
+use Rattle.meaning.specs.Answers.{Judges, NoCommand, AllCommands, NotSendable}
+use Rattle.meaning.specs.Domain.{Domain}
+use Rattle.meaning.specs.Runs as runs
+use Rattle.meaning.specs.Walk.{Gives, step}
+use Rattle.sets.specs.Words.{setOf}
+use Rattle.sheet.specs.Sheet.{domainIn}
+use Rattle.sheet.specs.Answers.{reading}
+use Rattle.sheet.specs.declared.Head.{Head}
+use Rattle.sheet.specs.declared.Refusal.{Refusal}
+use Rattle.sheet.specs.declared.Reading.the-variants as reading-is
+use Rattle.judge.specs.declared.Verdict.{Verdict}
+use Rattle.judge.specs.declared.Verdict.the-variants.{Good, Refused}
+use Rattle.judge.specs.declared.Judged.{Judged}
+
+-- the scope's number and place for each verdict: 'good' has place 0
+abbrev pub verdictOf : Verdict → answers.Verdict
+verdictOf Good = answers.good
+verdictOf (Refused f) = answers.refused (f .number)
+
+abbrev pub placeOf : Verdict → ℕ
+placeOf Good = 0
+placeOf (Refused f) = f .place
+
+-- the scope's values for the judge's answer
+abbrev pub valuesOf : Judged → answers.Judged
+valuesOf j = record { verdict = verdictOf (j .verdict); place = placeOf (j .verdict); set = setOf (j .set); left = j .left }
+
+-- the judge's answer for the sheet l and the plan p. A refused sheet has the empty set.
+pub record JudgedBy (l p : List ℕ) (j : Judged) : Type 0 where
+  pub refused : {f : Refusal} → reading l ≡ reading-is.Refused f → j ≡ record { verdict = Refused f; set = 0; left = 0 }
+  pub accepted : {h : Head} → reading l ≡ reading-is.Accepted h → Judges (domainIn l) (setOf (h .initial)) (setOf (h .goal)) p (valuesOf j)
+
+-- ---- the better of two plans
+
+-- the sheet is accepted, and the plan is good by its domain, initial set and goal
+pub record GoodFor (l p : List ℕ) : Type 0 where
+  pub head : Head
+  pub accepted : reading l ≡ reading-is.Accepted head
+  pub good : runs.Good (domainIn l) (setOf (head .initial)) (setOf (head .goal)) p
+
+-- r is the shorter good one of the lent plans a and b, as the caller's own bytes: the first if both are good and equally long, the one good plan if
+-- only one is, and the first's empty start if neither is
+pub record BetterOf (l : List ℕ) (a b r : RefT (List ℕ)) : Type 0 where
+  pub first : GoodFor l (a .now) → (GoodFor l (b .now) → length (a .now) ≤ length (b .now)) → r ≡ a
+  pub second : GoodFor l (b .now) → (GoodFor l (a .now) → length (b .now) < length (a .now)) → r ≡ b
+  pub neither : ¬ GoodFor l (a .now) → ¬ GoodFor l (b .now) → (r .now ≡ []) × (r .ptr ≡ a .ptr)
+
+-- ---- for the judge's own steps
+
+-- k is the index of the first number that is no command, or the plan's length
+pub record FirstMissing (m : ℕ) (p : List ℕ) (k : ℕ) : Type 0 where
+  pub upto : k ≤ length p
+  pub missing : k < length p → NoCommand m p k
+  pub none : k ≡ length p → AllCommands m p
+
+-- the walk of the plan from x came to the set y after k commands: all of them, or as many as there are before the first that is not sendable
+pub record WalkedTo (D : Domain) (x : ℕ) (p : List ℕ) (k y : ℕ) : Type 0 where
+  pub upto : k ≤ length p
+  pub blocked : k < length p → NotSendable D x p k y
+  pub ended : k ≡ length p → Gives (step D) x p y
