@@ -2,7 +2,6 @@
 use mathlib.Core.Path.{_≡_, sym, ap, _∙_, subst}
 use mathlib.Core.List.{List}
 use Prim.Native.Nat.{ℕ}
-use native.Mathlib.Omega.{arith}
 use Rattle.meaning.specs.Domain.{Domain}
 use Rattle.meaning.specs.Answers.{Judges}
 use Rattle.sheet.specs.Sheet.{domainIn}
@@ -10,31 +9,23 @@ use Rattle.sheet.specs.Answers.{reading}
 use Rattle.sheet.specs.declared.Head.{Head}
 use Rattle.sheet.specs.declared.Refusal.{Refusal}
 use Rattle.sheet.specs.declared.Reading.the-variants as reading-is
+use Rattle.sheet.proofs.Readings.{accepted-inj, refused-inj, not-both}
 use Rattle.follow.specs.Following.{domainBy}
 use Rattle.follow.proofs.DomainLaws.{domain-is}
 use Rattle.judge.specs.declared.Verdict.the-variants.{Refused}
 use Rattle.judge.specs.declared.Judged.{Judged}
 use Rattle.judge.specs.Verdicts.{valuesOf, JudgedBy}
 
-pub accepted-inj : {h k : Head} → reading-is.Accepted h ≡ reading-is.Accepted k → h ≡ k
-accepted-inj e = cc
-
-refused-inj : {f g : Refusal} → reading-is.Refused f ≡ reading-is.Refused g → f ≡ g
-refused-inj e = cc
-
-pub apart : {h : Head} {f : Refusal} → ¬ (reading-is.Accepted h ≡ reading-is.Refused f)
-apart e = let z : _≡_ {A = ℕ} 0 1 = cc in omega arith
-
 module _ (l p : List ℕ) (j : Judged) where
   pub by-refusal : {f : Refusal} → reading l ≡ reading-is.Refused f → j ≡ record { verdict = Refused f; set = 0; left = 0 } → JudgedBy l p j
   by-refusal {f} e q = record {
     refused = λ {f = g} d. q ∙ ap (λ (k : Refusal). let i : Judged = record { verdict = Refused k; set = 0; left = 0 } in i) (refused-inj (sym e ∙ d));
-    accepted = λ {h} d. absurd (apart (sym d ∙ e));
+    accepted = λ {h} d. absurd (not-both (sym d ∙ e));
   }
 
   pub by-head : {h : Head} → reading l ≡ reading-is.Accepted h → Judges (domainBy h l) (h .initial) (h .goal) p (valuesOf j) → JudgedBy l p j
   by-head {h} e u = record {
-    refused = λ {f} d. absurd (apart (sym e ∙ d));
+    refused = λ {f} d. absurd (not-both (sym e ∙ d));
     accepted = λ {h = k} d. subst (λ (g : Head). Judges (domainIn l) (g .initial) (g .goal) p (valuesOf j)) (accepted-inj (sym e ∙ d))
         (subst (λ (D : Domain). Judges D (h .initial) (h .goal) p (valuesOf j)) (domain-is l h e) u);
   }

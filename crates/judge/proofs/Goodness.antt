@@ -22,7 +22,6 @@ use Rattle.judge.specs.declared.Verdict.{Verdict}
 use Rattle.judge.specs.declared.Verdict.the-variants.{Good, Refused}
 use Rattle.judge.specs.declared.Judged.{Judged}
 use Rattle.judge.specs.Verdicts.{verdictOf, valuesOf, JudgedBy, GoodFor, BetterOf}
-use Rattle.judge.proofs.ByReading.{apart}
 
 good-is : (v : Verdict) → verdictOf v ≡ answers.good → v ≡ Good
 good-is Good e = refl

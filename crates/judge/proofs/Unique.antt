@@ -26,7 +26,7 @@ use Rattle.judge.specs.declared.Verdict.{Verdict}
 use Rattle.judge.specs.declared.Verdict.the-variants.{Good, Refused}
 use Rattle.judge.specs.declared.Judged.{Judged}
 use Rattle.judge.specs.Verdicts.{verdictOf, placeOf, valuesOf, JudgedBy, GoodFor, BetterOf}
-use Rattle.judge.proofs.ByReading.{apart, accepted-inj}
+use Rattle.sheet.proofs.Readings.{not-both, accepted-inj}
 
 -- ---- the judge
 
@@ -69,7 +69,7 @@ pub good-for-dec : (l p : List ℕ) → GoodFor l p ⊎ (¬ GoodFor l p)
 good-for-dec l p = go (reading l) refl
   where
     go : (r : Reading) → reading l ≡ r → GoodFor l p ⊎ (¬ GoodFor l p)
-    go (reading-is.Refused f) e = inr (λ g. apart (sym (g .accepted) ∙ e))
+    go (reading-is.Refused f) e = inr (λ g. not-both (sym (g .accepted) ∙ e))
     go (reading-is.Accepted h) e = ⊎-elim
         (λ g. inl (record { head = h; accepted = e; good = g }))
         (λ n. inr (λ g. n (subst (λ (k : Head). runs.Good (domainIn l) (k .initial) (k .goal) p) (accepted-inj (sym (g .accepted) ∙ e)) (g .good))))

@@ -1,4 +1,5 @@
 -- What it is for bytes to be accepted: the version and the stated length are right, and the sheet that the bytes hold is valid.
+-- The idea: no row holds exactly there, since each row's condition is the opposite of a part of that.
 -- Assumes nothing.
 use mathlib.Core.Path.{_≡_, refl, sym, ap, _∙_}
 use mathlib.Core.Bool.{not}
@@ -16,7 +17,8 @@ use Rattle.sheet.specs.declared.Head.{Head}
 use Rattle.sheet.specs.declared.Reading.the-variants.{Accepted, Refused}
 use Rattle.sheet.specs.declared.Check.{Check}
 use Rattle.sheet.specs.declared.Check.the-variants.{Passed, Failed}
-use Rattle.sheet.proofs.Rows.{onCheck, by-check, or-false, both-false, length-from}
+use Rattle.sheet.proofs.Rows.{onCheck, or-false, both-false, length-from}
+use Rattle.sheet.proofs.ByCheck.{reading-by}
 use Rattle.sheet.proofs.ValidLaws.{NoneHold, none-here, none-rest, none-cons, valid, even, passes-valid}
 
 pub record Accepts (l : List ℕ) : Type 0 where
@@ -54,12 +56,8 @@ accepts-none l a =
 
 -- ---- the answer
 
-read-by : (l : List ℕ) → reading l ≡ onCheck Refused (Accepted (headOf (sheetIn l))) (verdict Failed Passed (readingRows l))
-unfolding reading
-read-by l = by-check Refused (Accepted (headOf (sheetIn l))) (readingRows l)
-
 pub accepts-reading : (l : List ℕ) → Accepts l → reading l ≡ Accepted (headOf (sheetIn l))
-accepts-reading l a = read-by l ∙ ap (λ (k : Check). onCheck Refused (Accepted (headOf (sheetIn l))) k) (accepts-none l a .passes)
+accepts-reading l a = reading-by l ∙ ap (λ (k : Check). onCheck Refused (Accepted (headOf (sheetIn l))) k) (accepts-none l a .passes)
 
 pub record Taken (l : List ℕ) (h : Head) : Type 0 where
   pub accepts : Accepts l
@@ -70,8 +68,8 @@ reading-accepts l h e = go (verdict Failed Passed (readingRows l)) refl
   where
     go : (k : Check) → verdict Failed Passed (readingRows l) ≡ k → Taken l h
     go Passed p =
-        let f : Accepted (headOf (sheetIn l)) ≡ Accepted h = sym (read-by l ∙ ap (λ (k : Check). onCheck Refused (Accepted (headOf (sheetIn l))) k) p) ∙ e in
+        let f : Accepted (headOf (sheetIn l)) ≡ Accepted h = sym (reading-by l ∙ ap (λ (k : Check). onCheck Refused (Accepted (headOf (sheetIn l))) k) p) ∙ e in
         record { accepts = none-accepts l (record { passes = p }); head = cc }
     go (Failed q) p =
-        let f : Refused q ≡ Accepted h = sym (read-by l ∙ ap (λ (k : Check). onCheck Refused (Accepted (headOf (sheetIn l))) k) p) ∙ e in
+        let f : Refused q ≡ Accepted h = sym (reading-by l ∙ ap (λ (k : Check). onCheck Refused (Accepted (headOf (sheetIn l))) k) p) ∙ e in
         absurd (let z : _≡_ {A = ℕ} 0 1 = cc in omega arith)

@@ -1,29 +1,69 @@
--- Sheet S of the bench examples, computed from the definitions: its bytes are those of the scope, and they are accepted.
--- Assumes nothing.
+-- The scope's small sheets as bytes, with what the reader says of each, computed from the definitions; and sheet S's bytes from the sheet itself.
 use mathlib.Core.Path.{_≡_, refl}
 use mathlib.Core.List.{List, [], _∷_}
 use Prim.Native.Nat.{ℕ}
 use Rattle.sheet.specs.Bytes.{number, bytesOf}
-use Rattle.sheet.specs.Sheet.{Sheet, sheetWith, laid, encode, sheetIn}
+use Rattle.sheet.specs.Sheet.{sheetWith, laid, encode, sheetIn}
 use Rattle.sheet.specs.Refusals.{verdict, headRows, setRows, headWith, readingRows}
 use Rattle.sheet.specs.Answers.{reading}
 use Rattle.sheet.specs.declared.Reading.the-variants.{Accepted}
 
-abbrev S : Sheet
-S = sheetWith 2 2 3 1 (2 ∷ 1 ∷ 1 ∷ 1 ∷ [])
+-- a small set, in eight bytes
+abbrev pub set8 : ℕ → List ℕ → List ℕ
+set8 x l = 0 ∷ 0 ∷ 0 ∷ 0 ∷ 0 ∷ 0 ∷ 0 ∷ x ∷ l
 
--- 01 00000032 02 02 0000000000000003 0000000000000001 0000000000000002 0000000000000001 0000000000000001 0000000000000001
-abbrev s-bytes : List ℕ
-s-bytes =
-    0x01 ∷ 0x00 ∷ 0x00 ∷ 0x00 ∷ 0x32 ∷ 0x02 ∷ 0x02 ∷
-    0 ∷ 0 ∷ 0 ∷ 0 ∷ 0 ∷ 0 ∷ 0 ∷ 3 ∷ 0 ∷ 0 ∷ 0 ∷ 0 ∷ 0 ∷ 0 ∷ 0 ∷ 1 ∷
-    0 ∷ 0 ∷ 0 ∷ 0 ∷ 0 ∷ 0 ∷ 0 ∷ 2 ∷ 0 ∷ 0 ∷ 0 ∷ 0 ∷ 0 ∷ 0 ∷ 0 ∷ 1 ∷
-    0 ∷ 0 ∷ 0 ∷ 0 ∷ 0 ∷ 0 ∷ 0 ∷ 1 ∷ 0 ∷ 0 ∷ 0 ∷ 0 ∷ 0 ∷ 0 ∷ 0 ∷ 1 ∷ []
+-- sheets of two states, with two commands and with one
+abbrev pub sheet22 : ℕ → ℕ → ℕ → ℕ → ℕ → ℕ → List ℕ
+sheet22 x g a b c d = 1 ∷ 0 ∷ 0 ∷ 0 ∷ 50 ∷ 2 ∷ 2 ∷ set8 x (set8 g (set8 a (set8 b (set8 c (set8 d [])))))
 
-pub s-encoded : encode S ≡ s-bytes
+abbrev pub sheet21 : ℕ → ℕ → ℕ → ℕ → List ℕ
+sheet21 x g a b = 1 ∷ 0 ∷ 0 ∷ 0 ∷ 34 ∷ 2 ∷ 1 ∷ set8 x (set8 g (set8 a (set8 b [])))
+
+-- sheet S with a goal; S with command 1 impossible in state 1; S with command 0 only; and one command that leads from 0 to both states and from 1 to 1
+abbrev pub S : ℕ → List ℕ
+S g = sheet22 3 g 2 1 1 1
+
+abbrev pub partial : List ℕ
+partial = sheet22 3 1 2 1 1 0
+
+abbrev pub swap : ℕ → ℕ → List ℕ
+swap x g = sheet21 x g 2 1
+
+abbrev pub drift : List ℕ
+drift = sheet21 1 2 3 2
+
+-- ---- what the reader says
+
+pub reads-S : reading (S 1) ≡ Accepted (headWith 2 2 3 1)
+unfolding reading verdict readingRows headRows setRows sheetIn number
+reads-S = refl
+
+pub reads-S-two : reading (S 2) ≡ Accepted (headWith 2 2 3 2)
+unfolding reading verdict readingRows headRows setRows sheetIn number
+reads-S-two = refl
+
+pub reads-S-none : reading (S 0) ≡ Accepted (headWith 2 2 3 0)
+unfolding reading verdict readingRows headRows setRows sheetIn number
+reads-S-none = refl
+
+pub reads-partial : reading partial ≡ Accepted (headWith 2 2 3 1)
+unfolding reading verdict readingRows headRows setRows sheetIn number
+reads-partial = refl
+
+pub reads-swap : reading (swap 1 2) ≡ Accepted (headWith 2 1 1 2)
+unfolding reading verdict readingRows headRows setRows sheetIn number
+reads-swap = refl
+
+pub reads-swap-all : reading (swap 3 1) ≡ Accepted (headWith 2 1 3 1)
+unfolding reading verdict readingRows headRows setRows sheetIn number
+reads-swap-all = refl
+
+pub reads-drift : reading drift ≡ Accepted (headWith 2 1 1 2)
+unfolding reading verdict readingRows headRows setRows sheetIn number
+reads-drift = refl
+
+-- ---- from the sheet to its bytes: the scope's hexadecimal
+
+pub s-encoded : encode (sheetWith 2 2 3 1 (2 ∷ 1 ∷ 1 ∷ 1 ∷ [])) ≡ S 1
 unfolding laid bytesOf
 s-encoded = refl
-
-pub s-accepted : reading s-bytes ≡ Accepted (headWith 2 2 3 1)
-unfolding reading readingRows verdict headRows setRows sheetIn number
-s-accepted = refl

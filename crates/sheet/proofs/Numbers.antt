@@ -1,4 +1,4 @@
--- Laws of big-endian numbers, over the width: a number of j + k bytes is put together of one of j and one of k, and a number's bytes stand for it again.
+-- Laws of big-endian numbers, over the width: a number of j + k bytes is put together of one of j bytes and one of k.
 -- The idea: `number` of two lists one after the other; all else is that at a width.
 -- Assumes nothing.
 use mathlib.Core.Path.{_≡_, sym, ap, ap₂, _∙_}

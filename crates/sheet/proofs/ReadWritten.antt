@@ -20,6 +20,7 @@ use Rattle.sheet.specs.declared.Writing.the-variants.{Written, Refused}
 use Rattle.sheet.specs.declared.Check.{Check}
 use Rattle.sheet.specs.declared.Check.the-variants.{Passed, Failed}
 use Rattle.sheet.proofs.Rows.{onCheck, by-check, verdict-append}
+use Rattle.sheet.proofs.ByCheck.{writing-by, written-by}
 use Rattle.sheet.proofs.ValidLaws.{NoneHold, none-here, none-cons, none-nil, valid, even, passes-valid}
 use Rattle.sheet.proofs.WriteLaws.{length-encode}
 use Rattle.sheet.proofs.Accepts.{reading-accepts}
@@ -67,27 +68,22 @@ writes-none s room w =
 -- ---- what is written
 
 module _ (s : Sheet) (out : List ℕ) where
-  by-writing : writing s (length out) ≡ onCheck Refused (Written (lengthFor (s .states) (s .commands))) (verdict Failed Passed (writingRows s (length out)))
-  by-writing = by-check Refused (Written (lengthFor (s .states) (s .commands))) (writingRows s (length out))
-
-  pub written-by : (k : ℕ) → writing s (length out) ≡ Written k → Writes s (length out) × (lengthFor (s .states) (s .commands) ≡ k)
-  written-by k e = go (verdict Failed Passed (writingRows s (length out))) refl
+  pub written-when : (k : ℕ) → writing s (length out) ≡ Written k → Writes s (length out) × (lengthFor (s .states) (s .commands) ≡ k)
+  written-when k e = go (verdict Failed Passed (writingRows s (length out))) refl
     where
       go : (c : Check) → verdict Failed Passed (writingRows s (length out)) ≡ c → Writes s (length out) × (lengthFor (s .states) (s .commands) ≡ k)
       go Passed p =
-          let f : Written (lengthFor (s .states) (s .commands)) ≡ Written k = sym (by-writing ∙ ap (λ (c : Check). onCheck Refused (Written (lengthFor (s .states) (s .commands))) c) p) ∙ e in
+          let f : Written (lengthFor (s .states) (s .commands)) ≡ Written k = sym (writing-by s (length out) ∙ ap (λ (c : Check). onCheck Refused (Written (lengthFor (s .states) (s .commands))) c) p) ∙ e in
           (none-writes s (length out) (record { passes = p }), cc)
       go (Failed q) p =
-          let f : Refused q ≡ Written k = sym (by-writing ∙ ap (λ (c : Check). onCheck Refused (Written (lengthFor (s .states) (s .commands))) c) p) ∙ e in
+          let f : Refused q ≡ Written k = sym (writing-by s (length out) ∙ ap (λ (c : Check). onCheck Refused (Written (lengthFor (s .states) (s .commands))) c) p) ∙ e in
           absurd (let z : _≡_ {A = ℕ} 0 1 = cc in omega arith)
 
   pub writes-answer : Writes s (length out) → writing s (length out) ≡ Written (lengthFor (s .states) (s .commands))
-  writes-answer w = by-writing ∙ ap (λ (c : Check). onCheck Refused (Written (lengthFor (s .states) (s .commands))) c) (writes-none s (length out) w .passes)
+  writes-answer w = writing-by s (length out) ∙ ap (λ (c : Check). onCheck Refused (Written (lengthFor (s .states) (s .commands))) c) (writes-none s (length out) w .passes)
 
   pub writes-output : Writes s (length out) → written s out ≡ encode s ++ drop (lengthFor (s .states) (s .commands)) out
-  writes-output w =
-      by-check (λ _. out) (encode s ++ drop (lengthFor (s .states) (s .commands)) out) (writingRows s (length out))
-      ∙ ap (λ (c : Check). onCheck (λ _. out) (encode s ++ drop (lengthFor (s .states) (s .commands)) out) c) (writes-none s (length out) w .passes)
+  writes-output w = written-by s out ∙ ap (λ (c : Check). onCheck (λ _. out) (encode s ++ drop (lengthFor (s .states) (s .commands)) out) c) (writes-none s (length out) w .passes)
 
   writes-start : Writes s (length out) → take (lengthFor (s .states) (s .commands)) (written s out) ≡ encode s
   writes-start w =
@@ -102,7 +98,7 @@ pub record ReadsBack (s : Sheet) (l : List ℕ) : Type 0 where
 
 pub read-written : (s : Sheet) (out : List ℕ) (k : ℕ) → writing s (length out) ≡ Written k → ReadsBack s (take k (written s out))
 read-written s out k e =
-    let w = written-by s out k e in
+    let w = written-when s out k e in
     let v = w .0 .is-valid in
     let same : take k (written s out) ≡ encode s = ap (λ (n : ℕ). take n (written s out)) (sym (w .1)) ∙ writes-start s out (w .0) in
     record {

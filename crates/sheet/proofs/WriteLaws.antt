@@ -30,34 +30,35 @@ even-length a b = go (eqb a b) refl
     go true e = e ∙ sym (eq-eqb (shortest + setWidth * a) (shortest + setWidth * b) (ap (λ (n : ℕ). shortest + setWidth * n) (eqb-true a b e)))
     go false e = e ∙ sym (ne-eqb (shortest + setWidth * a) (shortest + setWidth * b) (λ f. eqb-false a b e (omega (arith, f))))
 
+-- the checks of the head and of the following sets of a sheet that is given
+abbrev pub headCheck : Sheet → Check
+headCheck s = verdict Failed Passed (headRowsBy (shortest + setWidth * length (s .sets)) (headOf s))
+
+abbrev pub setsCheck : Sheet → Check
+setsCheck s = verdict Failed Passed (setRows (s .states) setsAt (s .sets))
+
 -- whatever is answered by the rows of writing, with the length of the output
 module _ {A : Type 0} (refused : Refusal → A) (otherwise : A) (s : Sheet) (room : ℕ) where
-  -- the checks of the head and of the following sets, and the answer by row 9
-  abbrev pub headCheck : Check
-  headCheck = verdict Failed Passed (headRowsBy (shortest + setWidth * length (s .sets)) (headOf s))
-
-  abbrev pub setsCheck : Check
-  setsCheck = verdict Failed Passed (setRows (s .states) setsAt (s .sets))
-
+  -- the answer by row 9
   abbrev pub byRoom : A
   byRoom = verdict refused otherwise (roomRow s room ∷ [])
 
-  by-checks : verdict refused otherwise (writingRows s room) ≡ onCheck refused (onCheck refused byRoom setsCheck) headCheck
+  by-checks : verdict refused otherwise (writingRows s room) ≡ onCheck refused (onCheck refused byRoom (setsCheck s)) (headCheck s)
   unfolding writingRows
   by-checks =
       ap (λ (b : Bool). verdict refused otherwise ((headRows (not b) (headOf s) ++ setRows (s .states) setsAt (s .sets)) ++ (roomRow s room ∷ []))) (even-length (length (s .sets)) (s .commands * s .states))
       ∙ ap (λ (rs : List Row). verdict refused otherwise rs) (append-assoc (headRowsBy (shortest + setWidth * length (s .sets)) (headOf s)) (setRows (s .states) setsAt (s .sets)) (roomRow s room ∷ []))
       ∙ checked refused otherwise (headRowsBy (shortest + setWidth * length (s .sets)) (headOf s)) (setRows (s .states) setsAt (s .sets) ++ (roomRow s room ∷ []))
-      ∙ ap (λ (a : A). onCheck refused a headCheck) (checked refused otherwise (setRows (s .states) setsAt (s .sets)) (roomRow s room ∷ []))
+      ∙ ap (λ (a : A). onCheck refused a (headCheck s)) (checked refused otherwise (setRows (s .states) setsAt (s .sets)) (roomRow s room ∷ []))
 
-  pub head-fails : (q : Refusal) → headCheck ≡ Failed q → verdict refused otherwise (writingRows s room) ≡ refused q
-  head-fails q e = by-checks ∙ ap (λ (k : Check). onCheck refused (onCheck refused byRoom setsCheck) k) e
+  pub head-fails : (q : Refusal) → headCheck s ≡ Failed q → verdict refused otherwise (writingRows s room) ≡ refused q
+  head-fails q e = by-checks ∙ ap (λ (k : Check). onCheck refused (onCheck refused byRoom (setsCheck s)) k) e
 
-  pub sets-fail : headCheck ≡ Passed → (q : Refusal) → setsCheck ≡ Failed q → verdict refused otherwise (writingRows s room) ≡ refused q
+  pub sets-fail : headCheck s ≡ Passed → (q : Refusal) → setsCheck s ≡ Failed q → verdict refused otherwise (writingRows s room) ≡ refused q
   sets-fail e q f = by-checks ∙ ap₂ (λ (k j : Check). onCheck refused (onCheck refused byRoom j) k) e f
 
-  pub both-pass : headCheck ≡ Passed → setsCheck ≡ Passed → verdict refused otherwise (writingRows s room) ≡ byRoom
-  both-pass e f = by-checks ∙ ap₂ (λ (k j : Check). onCheck refused (onCheck refused byRoom j) k) e f
+  pub both-pass : headCheck s ≡ Passed → setsCheck s ≡ Passed → {a : A} → a ≡ byRoom → a ≡ verdict refused otherwise (writingRows s room)
+  both-pass e f r = r ∙ sym (by-checks ∙ ap₂ (λ (k j : Check). onCheck refused (onCheck refused byRoom j) k) e f)
 
 -- ---- a whole sheet, stored
 

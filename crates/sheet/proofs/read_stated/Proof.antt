@@ -7,13 +7,14 @@ use native.Mathlib.Nat.{mul-le-mul}
 use native.Mathlib.Omega.{arith}
 use denote.Ref.{now}
 use Rattle.sheet.specs.Sheet.{sheetIn}
-use Rattle.sheet.specs.Refusals.{headOf, headWith}
+use Rattle.sheet.specs.Refusals.{verdict, headOf, headWith}
 use Rattle.sheet.specs.declared.Head.{Head}
 use Rattle.sheet.specs.declared.Check.{Check}
+use Rattle.sheet.specs.declared.Check.the-variants.{Passed, Failed}
 use Rattle.sheet.specs.declared.Reading.the-variants.{Accepted, Refused}
 use Rattle.sheet.proofs.Numbers.{numberAt-one}
 use Rattle.sheet.proofs.Rows.{onCheck}
-use Rattle.sheet.proofs.ReadLaws.{answerBy, answerBySets, by-head, by-sets, head-even}
+use Rattle.sheet.proofs.ReadLaws.{headRowsBy, answerBy, answerBySets, by-head, by-sets, head-even}
 use borrow.Author.Needs.{needs}
 use Rattle.sheet.proofs.read_stated.Statement.{statement}
 use Rattle.sheet.proofs.read_stated.Tie as tie
@@ -39,6 +40,9 @@ same c = λ i. record {
 
 bytes : (c : tie.After-check-head) → c .before .before .before .wide2 .result * c .before .before .before .before .before .wide .result ≤ 255 * 255
 bytes c = mul-le-mul {n₂ = 255} {m₂ = 255} (omega arith) (omega arith)
+
+head-passed : (c : tie.After-enum-told) → verdict Failed Passed (headRowsBy (N (c .before .before)) (H (c .before .before))) ≡ Passed
+head-passed c = sym (c .before .before .check-head .ensures) ∙ c .enum-told .given .1
 
 -- where the head passed
 passed : (c : tie.After-enum-told) → answerBy (L (c .before .before)) (N (c .before .before)) ≡ answerBySets (L (c .before .before))
@@ -78,8 +82,7 @@ mul-check-sets c = omega (arith, bytes (c .before .before))
 
 check-sets-requires : tie.Need-check-sets-requires
 check-sets-requires c κs =
-    let k = c .before .before in
-    omega (arith, head-even (N k) (H k) (sym (k .check-head .ensures) ∙ c .enum-told .given .1))
+    omega (arith, head-even (N (c .before .before)) (H (c .before .before)) (head-passed c))
 
 enum-known-r-2 : tie.Need-enum-known-r-2
 enum-known-r-2 c = search needs

@@ -1,6 +1,6 @@
 -- `sheet::write` meets its contract: answer and output go by the check of the head, then by the check of the following sets, then by the storing.
 -- Assumes nothing.
-use mathlib.Core.Path.{sym, _∙_}
+use mathlib.Core.Path.{_≡_, sym, _∙_}
 use mathlib.Core.List.{List, _++_}
 use Prim.Native.Nat.{ℕ, _+_, _*_}
 use native.Mathlib.Omega.{arith}
@@ -10,8 +10,9 @@ use Rattle.sheet.specs.Sheet.{Sheet, sheetWith, encode, lengthFor, short
 use Rattle.sheet.specs.Refusals.{headOf}
 use Rattle.sheet.specs.declared.Writing.{Writing}
 use Rattle.sheet.specs.declared.Writing.the-variants.{Written, Refused}
+use Rattle.sheet.specs.declared.Check.the-variants.{Passed, Failed}
 use Rattle.sheet.proofs.ReadLaws.{head-even, head-fits}
-use Rattle.sheet.proofs.WriteLaws.{head-fails, sets-fail, both-pass}
+use Rattle.sheet.proofs.WriteLaws.{headCheck, setsCheck, head-fails, sets-fail, both-pass}
 use borrow.Author.Needs.{needs}
 use Rattle.sheet.proofs.write.Statement.{statement}
 use Rattle.sheet.proofs.write.Tie as tie
@@ -31,6 +32,19 @@ Done c = Written (lengthFor (c .args .states) (c .args .commands))
 
 abbrev Out : tie.Start → List ℕ
 Out c = encode (S c) ++ drop (lengthFor (c .args .states) (c .args .commands)) (O c)
+
+-- what the two checks answered, at each way on
+head-passed : (c : tie.After-enum-told) → headCheck (S (c .before .before .before .before .before)) ≡ Passed
+head-passed c = sym (c .before .before .check-head .ensures) ∙ c .enum-told .given .1
+
+head-failed : (c : tie.After-r) → headCheck (S (c .before .before .before .before .before)) ≡ Failed (c .r .given .0 .0)
+head-failed c = sym (c .before .before .check-head .ensures) ∙ c .r .given .1
+
+sets-passed : (c : tie.After-enum-told2) → setsCheck (S (c .before .before .before .before .before .before .before .before)) ≡ Passed
+sets-passed c = sym (c .before .before .check-given .ensures) ∙ c .enum-told2 .given .1
+
+sets-failed : (c : tie.After-r2) → setsCheck (S (c .before .before .before .before .before .before .before .before)) ≡ Failed (c .r2 .given .0 .0)
+sets-failed c = sym (c .before .before .check-given .ensures) ∙ c .r2 .given .1
 
 mul-check-head : tie.Need-mul-check-head
 mul-check-head c = search needs
@@ -58,32 +72,28 @@ enum-told-2 c = search needs
 
 put-sheet-requires : tie.Need-put-sheet-requires
 put-sheet-requires c κs =
-    let k = c .before .before .before .before .before .before in
-    let h = headOf (S (k .before .before .before)) in
-    let n = shortest + setWidth * length (now (k .before .before .before .args .given)) in
-    let e = sym (k .check-head .ensures) ∙ c .before .before .before .before .enum-told .given .1 in
-    (omega (arith, head-even n h e), head-fits n h e)
+    let t = c .before .before .before .before in
+    let g : Sheet = S (t .before .before .before .before .before) in
+    let n : ℕ = shortest + setWidth * length (g .sets) in
+    (omega (arith, head-even n (headOf g) (head-passed t)), head-fits n (headOf g) (head-passed t))
 
 returns : tie.Need-returns
 returns c =
-    let k = c .before .before .before in
-    let s = k .before .before .before in
-    let e = sym (k .check-head .ensures) ∙ c .before .r .given .1 in
+    let t = c .before in
+    let s = t .before .before .before .before .before in
     record {
-      answer = sym (head-fails Refused (Done s) (S s) (Room s) (c .before .r .given .0 .0) e);
-      output = sym (head-fails (λ _. O s) (Out s) (S s) (Room s) (c .before .r .given .0 .0) e);
+      answer = sym (head-fails Refused (Done s) (S s) (Room s) (t .r .given .0 .0) (head-failed t));
+      output = sym (head-fails (λ _. O s) (Out s) (S s) (Room s) (t .r .given .0 .0) (head-failed t));
     }
 
 returns-2 : tie.Need-returns-2
 returns-2 c =
-    let j = c .before .before .before in
-    let k = j .before .before .before in
-    let s = k .before .before .before in
-    let e = sym (k .check-head .ensures) ∙ j .before .enum-told .given .1 in
-    let f = sym (j .check-given .ensures) ∙ c .before .r2 .given .1 in
+    let t = c .before in
+    let k = t .before .before .before in
+    let s = k .before .before .before .before .before in
     record {
-      answer = sym (sets-fail Refused (Done s) (S s) (Room s) e (c .before .r2 .given .0 .0) f);
-      output = sym (sets-fail (λ _. O s) (Out s) (S s) (Room s) e (c .before .r2 .given .0 .0) f);
+      answer = sym (sets-fail Refused (Done s) (S s) (Room s) (head-passed k) (t .r2 .given .0 .0) (sets-failed t));
+      output = sym (sets-fail (λ _. O s) (Out s) (S s) (Room s) (head-passed k) (t .r2 .given .0 .0) (sets-failed t));
     }
 
 same-length : tie.Need-same-length
@@ -91,15 +101,13 @@ same-length c = search needs
 
 returns-3 : tie.Need-returns-3
 returns-3 c =
-    let t = c .before .before in
-    let j = t .before .before .before .before in
-    let k = j .before .before .before in
-    let s = k .before .before .before in
-    let e = sym (k .check-head .ensures) ∙ j .before .enum-told .given .1 in
-    let f = sym (j .check-given .ensures) ∙ t .before .before .enum-told2 .given .1 in
+    let p = c .before .before in
+    let t = p .before .before in
+    let k = t .before .before .before in
+    let s = k .before .before .before .before .before in
     record {
-      answer = t .put-sheet .ensures .0 ∙ sym (both-pass Refused (Done s) (S s) (Room s) e f);
-      output = t .put-sheet .ensures .1 ∙ sym (both-pass (λ _. O s) (Out s) (S s) (Room s) e f);
+      answer = both-pass Refused (Done s) (S s) (Room s) (head-passed k) (sets-passed t) (p .put-sheet .ensures .0);
+      output = both-pass (λ _. O s) (Out s) (S s) (Room s) (head-passed k) (sets-passed t) (p .put-sheet .ensures .1);
     }
 
 pub write-spec : {M : Type 1} → statement M

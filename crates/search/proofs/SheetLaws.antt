@@ -1,0 +1,56 @@
+-- From a reading to the search of a sheet: an accepted sheet gives a domain and a start that the engine takes, and its answer is the sheet's.
+use mathlib.Core.Path.{_≡_, refl, sym, ap, _∙_, subst}
+use mathlib.Core.Bool.{true, false, true≢false}
+use mathlib.Core.List.{List}
+use Prim.Native.Nat.{ℕ}
+use Rattle.meaning.specs.Domain.{Domain}
+use Rattle.sheet.specs.Sheet.{domain, domainIn}
+use Rattle.sheet.specs.Answers.{reading, shownHead}
+use Rattle.sheet.specs.declared.Head.{Head}
+use Rattle.sheet.specs.declared.Refusal.{Refusal}
+use Rattle.sheet.specs.declared.Reading.{Reading}
+use Rattle.sheet.specs.declared.Reading.the-variants.{Accepted, Refused}
+use Rattle.sheet.proofs.Readings.{accepted-inj, refused-inj, not-both}
+use Rattle.sheet.proofs.Accepts.{reading-accepts}
+use Rattle.sheet.proofs.DomainLaws.{domain-well-formed, initial-start}
+use Rattle.follow.specs.Following.{domainBy}
+use Rattle.follow.proofs.DomainLaws.{domain-is}
+use Rattle.store.specs.declared.Node.{Node}
+use Rattle.search.specs.Turns.{isRefused, answerOf}
+use Rattle.search.specs.Done.{Ready, SearchDone, SheetRefused, SheetSearched}
+use Rattle.search.specs.declared.Answer.{Answer}
+
+accepted-is : (l : List ℕ) {h : Head} (r : Reading) → r ≡ reading l → isRefused r ≡ false → h ≡ shownHead r → reading l ≡ Accepted h
+accepted-is l (Accepted g) e q p = sym e ∙ ap Accepted (sym p)
+accepted-is l (Refused f) e q p = absurd (true≢false q)
+
+-- ---- an accepted sheet
+
+pub sheet-ready : (l : List ℕ) {h : Head} → reading l ≡ Accepted h → Ready (domainIn l) (h .initial)
+unfolding domain
+sheet-ready l {h} e = record { well-formed = domain-well-formed l h e; start = initial-start l h e; few = reading-accepts l h e .accepts .is-valid .commands-fit }
+
+module _ (l : List ℕ) {h : Head} (r : Reading) (e : r ≡ reading l) (q : isRefused r ≡ false) (p : h ≡ shownHead r) where
+  taken : reading l ≡ Accepted h
+  taken = accepted-is l r e q p
+
+  -- the engine may be called
+  pub engine-ready : Ready (domainBy h l) (h .initial)
+  engine-ready = subst (λ (D : Domain). Ready D (h .initial)) (sym (domain-is l h taken)) (sheet-ready l taken)
+
+  -- and its answer is the sheet's
+  pub engine-done : {store store′ : List Node} {plan plan′ : List ℕ} {a : Answer} → SearchDone (domainBy h l) (h .initial) (h .goal) store store′ plan plan′ a → SheetSearched l store store′ plan plan′ a
+  engine-done {store} {store′} {plan} {plan′} {a} d = record {
+    refused = λ f. absurd (not-both (sym taken ∙ f));
+    accepted = λ f. subst (λ (k : Head). SearchDone (domainIn l) (k .initial) (k .goal) store store′ plan plan′ a) (accepted-inj (sym taken ∙ f))
+        (subst (λ (D : Domain). SearchDone D (h .initial) (h .goal) store store′ plan plan′ a) (domain-is l h taken) d);
+  }
+
+-- ---- a refused sheet
+
+pub sheet-refused : (l : List ℕ) (r : Reading) {store : List Node} {plan : List ℕ} {a : Answer} → r ≡ reading l → isRefused r ≡ true → a ≡ answerOf r → SheetSearched l store store plan plan a
+sheet-refused l (Accepted h) e q p = absurd (true≢false (sym q))
+sheet-refused l (Refused f) {store} {plan} {a} e q p = record {
+  refused = λ k. subst (λ (j : Refusal). SheetRefused j store store plan plan a) (refused-inj (e ∙ k)) (record { answer-is = p; store-is = refl; plan-is = refl });
+  accepted = λ k. absurd (not-both (sym k ∙ sym e));
+}

@@ -1,0 +1,3 @@
+pub mod PathLaws
+pub mod Types
+pub mod Jobs

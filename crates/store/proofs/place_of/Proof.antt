@@ -1,0 +1,95 @@
+-- `store::place_of` meets its contract: a walk of its MIR, and what the walk asks. The loop keeps that no place below i holds the set.
+use mathlib.Core.Path.{_≡_, refl, ap, sym, _∙_}
+use mathlib.Core.Logic.{_⊎_, inl, inr, _≢_}
+use mathlib.Core.List.{List, [], _∷_}
+use Prim.Native.Nat.{ℕ, _<_, _≤_, _+_, _-_}
+use native.Mathlib.Nat.{eq-or-lt-of-le}
+use native.Mathlib.Omega.{arith}
+use package.mir.Syntax.{w64, add, lt, eq, unsigned, field, named}
+use contract.Running.{tablesOf}
+use borrow.Table.Row.{sInt, sBool}
+use borrow.Author.Tests.{ltb-true, ltb-false, eqb-true, eqb-false}
+use borrow.Fn.World.{World}
+use Rattle.store.specs.declared.Node.{Node}
+use Rattle.store.specs.Nodes.{setAt}
+use Rattle.store.proofs.Node.{the-row}
+use Rattle.store.proofs.Jobs as jobs
+use Rattle.store.proofs.Jobs.{place-of as job}
+use Rattle.store.proofs.Types.{node-type, set-of}
+use Rattle.store.proofs.node_at.Symbol as at-def
+use Rattle.store.proofs.node_at.Met as at-thm
+use Rattle.walks.proofs.Walk.{_then_, _free_, _with_, returned, last, skipped, left, joined, branches, loops, n64, flag, fresh, over, at, part, lit, puts, does, gone, none, num, calls}
+use Rattle.walks.proofs.Slices.{shr-arg, a-lent}
+use Rattle.walks.proofs.Values.{value-room}
+use Rattle.walks.proofs.Meets.{Walked, Laid, closes, Cited, cites}
+use Rattle.store.proofs.place_of.Key.{name}
+use Rattle.store.proofs.place_of.Statement.{statement}
+use Rattle.store.proofs.place_of.Code as code
+
+-- no place below i holds the set y
+abbrev None : List Node → ℕ → ℕ → Type 0
+None l y i = (k : ℕ) → k < i → setAt l k ≢ y
+
+none-more : (l : List Node) (y i : ℕ) → None l y i → setAt l i ≢ y → None l y (i + 1)
+none-more l y i p q k h = by-case (eq-or-lt-of-le (below h))
+  where
+    below : k < i + 1 → k ≤ i
+    below b = omega arith
+
+    by-case : (k ≡ i) ⊎ (k < i) → setAt l k ≢ y
+    by-case (inl e) f = q (rw (← e) f)
+    by-case (inr b) f = p k b f
+
+module _ (w : World) where
+  node-at : Cited job jobs.node-at w code.env at-def.name
+  node-at = cites job jobs.node-at w code.env at-def.name at-def.routine code.calls-store·node-at (at-thm.met (w .𝓤) (w .H) (w .𝓜) (w .𝓖) (w .𝓡))
+
+  abbrev walk : Walked job w code.env code.function
+  walk κs qs bs =
+      puts 4 (sInt w64) (lit w64 0 tt) fresh refl (λ u. refl) (λ u. tt) then
+      joined _
+      (loops {Vs = ℕ} (λ i u. (u .0, (u .1 .0, (u .1 .1 .0, (u .1 .1 .1 .0, (i, u .1 .1 .1 .1 .1))))))
+      (λ u i. (i ≤ u .1 .1 .0) × None (u .1 .0 .now) (u .1 .1 .1 .0) i)
+      (λ u i. u .1 .1 .0 - i) (
+      does 6 sBool (lt unsigned) (at 4 n64 refl) (at 2 n64 refl) fresh refl (λ u. refl) (λ u. tt) then
+      joined _ (branches 6 flag refl (skipped tt) (gone 6 (over sBool) free left 1 tt)) (
+      calls (node-at bs) (0 ∷ []) 5 (shr-arg the-row 0 tt 1 (a-lent the-row (named 0) 0) refl (num 4 n64 refl none)) fresh (tt, tt) refl then
+      does 6 sBool eq (part 5 (field 0 ∷ []) set-of refl) (at 3 n64 refl) (over sBool) refl (λ u. refl) (λ u. tt) then
+      joined _ (branches 6 flag refl (
+      puts 0 (sInt w64) (at 4 n64 refl) fresh refl (λ u. refl) (λ u. tt) then
+      gone 2 (over (sInt w64)) free gone 3 (over (sInt w64)) free gone 4 (over (sInt w64)) free gone 5 (value-room node-type) free gone 6 (over sBool) free
+      returned tt) (skipped tt)) (
+      last tt (does 4 (sInt w64) (add unsigned) (at 4 n64 refl) (lit w64 1 tt) (over (sInt w64)) refl (λ u. refl) (λ u. tt)
+      with gone 5 (value-room node-type) with gone 6 (over sBool))))))
+      (puts 0 (sInt w64) (at 2 n64 refl) fresh refl (λ u. refl) (λ u. tt) then
+      gone 2 (over (sInt w64)) free gone 3 (over (sInt w64)) free gone 4 (over (sInt w64)) free
+      returned tt)
+
+  laid : Laid job w code.env code.function walk
+  laid κs qs a good pre bs =
+      let l : List Node = a .0 .now in
+      let n : ℕ = a .1 .0 in
+      let y : ℕ = a .1 .1 .0 in (
+        (0, refl, (omega arith, λ k h e. omega (arith, h))),
+        λ i inv. (
+          tt,
+          (
+            (λ t. let h : i < n = ltb-true i n t in (
+              (λ _. omega (arith, pre, h)),
+              λ q. let e : q .1 .set ≡ setAt l i = ap (λ (m : Node). m .set) (q .5) in (
+                tt,
+                (
+                  (λ f. ((refl, (tt, (tt, tt))), record { within = inv .0; here = λ k. sym e ∙ eqb-true _ y f; nowhere = λ z. absurd (omega (arith, z, h)) })),
+                  (λ f. (record { fits = omega (arith, good .0 .0, pre, h) }, (n - (i + 1), omega arith, (i + 1, refl, (omega arith, none-more l y i (inv .1) (λ z. eqb-false _ y f (e ∙ z))), refl)))),
+                ),
+              ),
+            )),
+            (λ f. ((refl, (tt, (tt, tt))), let h : n ≤ i = ltb-false i n f in record { within = omega arith; here = λ k. absurd (omega (arith, k)); nowhere = λ z k b. inv .1 k (omega (arith, b, h)) })),
+          ),
+        ),
+      )
+
+pub place-of-spec : {M : Type 1} → statement M
+unfolding code.routine tablesOf
+place-of-spec {M} 𝓤 H 𝓜 𝓖 𝓡 =
+    let w : World = record { M = M; 𝓤 = 𝓤; H = H; 𝓜 = 𝓜; 𝓖 = 𝓖; 𝓡 = 𝓡 } in closes job w code.env name code.function (walk w) (laid w) (code.unfolded 𝓤 H 𝓜 𝓡)
