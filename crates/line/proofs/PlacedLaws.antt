@@ -1,0 +1,97 @@
+-- Bytes put at a place: what is promised where the buffer has no room, and where it has; and what a caller learns of the promise, so that a program can print
+-- one line after another.
+-- The idea: an end that is at most the length of a buffer is no capped one, and where the bytes fit the promise is a run of stores.
+-- Assumes nothing.
+use mathlib.Core.Path.{_≡_, refl, sym, ap, _∙_, subst}
+use mathlib.Core.Bool.{Bool, true, false, cond}
+use mathlib.Core.List.{List, _++_}
+use Prim.Native.Nat.{ℕ, _+_, _≤_, _<_}
+use native.Mathlib.Nat.{zero-add}
+use native.Mathlib.Omega.{arith}
+use lib.Dec.{leb}
+use lib.ListN.{length, take, drop, length-append}
+use lib.Seq.{sets, sets-eq, length-sets}
+use borrow.Author.Tests.{le-leb, lt-leb, leb-true}
+use Rattle.line.specs.Lines.{lineOf, answerOf}
+use Rattle.line.specs.Placing.{capped, answered, placed, Placed}
+use Rattle.line.specs.declared.Line.{Line}
+use Rattle.line.specs.declared.Printed.{Printed}
+use Rattle.line.specs.declared.Printed.the-variants.{End, Short}
+use Rattle.line.proofs.Stores.{sets-on}
+
+-- the bytes fit: the end is answered, and they are stored
+pub stored-whole : (bytes : List ℕ) (at : ℕ) (before : List ℕ) {after : List ℕ} → at + length bytes ≤ length before → after ≡ sets before at bytes → Placed bytes at before after (End (at + length bytes))
+unfolding answered placed
+stored-whole bytes at before h f =
+    let t = le-leb (at + length bytes) (length before) h in
+    record { answer = simp t; output = f ∙ sets-eq bytes before at h ∙ simp t }
+
+-- what the code knows: the end, capped, and whether it lies within the buffer
+module _ (bytes : List ℕ) (at : ℕ) (before : List ℕ) {end : ℕ} (e : end ≡ capped (at + length bytes)) where
+  pub no-room : length before < end → Placed bytes at before before (Short end)
+  unfolding answered placed
+  no-room h =
+      let t = lt-leb (at + length bytes) (length before) (omega arith) in
+      record { answer = ap Short e ∙ simp t; output = simp t }
+
+  pub room : {after : List ℕ} → length before < 18446744073709551615 → end ≤ length before → after ≡ sets before at bytes → Placed bytes at before after (End end)
+  room {after} s h f =
+      let x : at + length bytes ≡ end = omega (arith, s, h) in
+      subst (λ (n : ℕ). Placed bytes at before after (End n)) x (stored-whole bytes at before (omega arith) f)
+
+-- the line of a value that is known by its case
+pub of-case : (commands : List ℕ) {l k : Line} {at : ℕ} {before after : List ℕ} {r : Printed} → l ≡ k → Placed (lineOf (answerOf k commands)) at before after r → Placed (lineOf (answerOf l commands)) at before after r
+of-case commands {at = at} {before = before} {after = after} {r = r} e p = subst (λ (m : Line). Placed (lineOf (answerOf m commands)) at before after r) (sym e) p
+
+-- ---- what a caller learns
+
+-- two answers and two buffers that the promise permits are equal
+pub one-result : {bytes : List ℕ} {at : ℕ} {before after other : List ℕ} {r q : Printed} → Placed bytes at before after r → Placed bytes at before other q → (r ≡ q) × (after ≡ other)
+one-result p o = (p .answer ∙ sym (o .answer), p .output ∙ sym (o .output))
+
+module _ {bytes : List ℕ} {at : ℕ} {before after : List ℕ} {r : Printed} (p : Placed bytes at before after r) where
+  -- an end is where the bytes end, and lies within the buffer
+  pub end-within : {end : ℕ} → r ≡ End end → (end ≡ at + length bytes) × (end ≤ length before)
+  unfolding answered
+  end-within {end} e = go (leb (at + length bytes) (length before)) refl (sym e ∙ p .answer)
+    where
+      go : (t : Bool) → leb (at + length bytes) (length before) ≡ t → End end ≡ cond t (End (at + length bytes)) (Short (capped (at + length bytes))) → (end ≡ at + length bytes) × (end ≤ length before)
+      go true l f = let x : end ≡ at + length bytes = cc in (x, omega (arith, leb-true (at + length bytes) (length before) l))
+      go false l f = let z : _≡_ {A = ℕ} 0 1 = cc in absurd (omega arith)
+
+  -- too short a buffer is as it was
+  pub short-kept : {needed : ℕ} → r ≡ Short needed → (needed ≡ capped (at + length bytes)) × (after ≡ before)
+  unfolding answered placed
+  short-kept {needed} e = go (leb (at + length bytes) (length before)) (sym e ∙ p .answer) (p .output)
+    where
+      go : (t : Bool) → Short needed ≡ cond t (End (at + length bytes)) (Short (capped (at + length bytes))) → after ≡ cond t (take at before ++ bytes ++ drop (at + length bytes) before) before → (needed ≡ capped (at + length bytes)) × (after ≡ before)
+      go true f g = let z : _≡_ {A = ℕ} 0 1 = cc in absurd (omega arith)
+      go false f g = let x : needed ≡ capped (at + length bytes) = cc in (x, g)
+
+  -- an end: the bytes are stored
+  pub end-stored : {end : ℕ} → r ≡ End end → after ≡ sets before at bytes
+  unfolding placed
+  end-stored e =
+      let h : at + length bytes ≤ length before = omega (arith, end-within e .0, end-within e .1) in
+      let t = le-leb (at + length bytes) (length before) h in
+      p .output ∙ (simp t) ∙ sym (sets-eq bytes before at h)
+
+  -- a buffer that is long enough gets them
+  pub enough : at + length bytes ≤ length before → r ≡ End (at + length bytes)
+  unfolding answered
+  enough h = let t = le-leb (at + length bytes) (length before) h in p .answer ∙ simp t
+
+-- what is put where something else ended, and ends itself, is one with it
+pub in-turn : {a b : List ℕ} {at end last : ℕ} {before middle after : List ℕ} {r q : Printed}
+    → Placed a at before middle r → r ≡ End end → Placed b end middle after q → q ≡ End last → Placed (a ++ b) at before after (End last)
+in-turn {a} {b} {at} {end} {last} {before} {middle} {after} p e o f =
+    let x : end ≡ at + length a = end-within p e .0 in
+    let l : length middle ≡ length before = ap length (end-stored p e) ∙ length-sets before at a in
+    let y : at + length (a ++ b) ≡ last = omega (arith, x, length-append a b, end-within o f .0) in
+    let s : after ≡ sets before at (a ++ b) = end-stored o f ∙ sets-on before at a b (end-stored p e) x in
+    subst (λ (n : ℕ). Placed (a ++ b) at before after (End n)) y (stored-whole (a ++ b) at before (omega (arith, l, y, end-within o f .1)) s)
+
+-- at place 0 the bytes stand at the start, and the rest is as lent
+pub at-start : (bytes before : List ℕ) → placed bytes 0 before ≡ cond (leb (length bytes) (length before)) (bytes ++ drop (length bytes) before) before
+unfolding placed
+at-start bytes before = ap (λ (n : ℕ). cond (leb n (length before)) (bytes ++ drop n before) before) (zero-add (length bytes))

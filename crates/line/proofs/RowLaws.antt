@@ -1,0 +1,50 @@
+-- A line of a word, fields and commands as its four parts, counted and stored.
+-- The idea: the fields and the commands are one list of fields, and runs of stores that follow one another are one run.
+-- Assumes nothing.
+use mathlib.Core.Path.{_≡_, sym, ap, _∙_}
+use mathlib.Core.List.{List, [], _∷_, _++_, append-assoc}
+use Prim.Native.Nat.{ℕ, suc, _+_, _*_, _^_, _≤_, _<_}
+use native.Mathlib.Nat.{mul-suc}
+use native.Mathlib.Omega.{arith}
+use lib.ListN.{length, getD, length-append}
+use lib.Seq.{sets}
+use Rattle.line.specs.Decimal.{decimal}
+use Rattle.line.specs.Lines.{lineFeed, spaced, row}
+use Rattle.line.proofs.DecimalLaws.{length-below}
+use Rattle.line.proofs.Stores.{sets-on}
+use Rattle.line.proofs.FieldLaws.{spaced-append}
+
+module _ (word fields commands : List ℕ) where
+  row-parts : row word (fields ++ commands) ≡ ((word ++ spaced fields) ++ spaced commands) ++ (lineFeed ∷ [])
+  unfolding row
+  row-parts = simp (spaced-append, append-assoc)
+
+  pub length-row : length (row word (fields ++ commands)) ≡ length word + length (spaced fields) + length (spaced commands) + 1
+  length-row = ap length row-parts ∙ simp length-append
+
+  -- the word stands up to i, the fields up to j, the commands up to k, and then the line feed
+  pub row-stored : (l : List ℕ) (at : ℕ) {a b d o : List ℕ} {i j k : ℕ}
+      → a ≡ sets l at word → i ≡ at + length word
+      → b ≡ sets a i (spaced fields) → j ≡ i + length (spaced fields)
+      → d ≡ sets b j (spaced commands) → k ≡ j + length (spaced commands)
+      → o ≡ sets d k (lineFeed ∷ [])
+      → o ≡ sets l at (row word (fields ++ commands))
+  row-stored l at ea ei eb ej ed ek eo =
+      eo
+      ∙ sets-on l at ((word ++ spaced fields) ++ spaced commands) (lineFeed ∷ [])
+      (ed ∙ sets-on l at (word ++ spaced fields) (spaced commands) (eb ∙ sets-on l at word (spaced fields) ea ei) (omega (arith, ei, ej, length-append word (spaced fields))))
+      (omega (arith, ei, ej, ek, length-append (word ++ spaced fields) (spaced commands), length-append word (spaced fields)))
+      ∙ ap (λ (r : List ℕ). sets l at r) (sym row-parts)
+
+-- fields of at most k + 1 digits take at most k + 2 bytes each
+pub length-spaced : (k : ℕ) (ns : List ℕ) → ((i : ℕ) → getD ns i 0 < 10 ^ suc k) → length (spaced ns) ≤ (k + 2) * length ns
+unfolding spaced
+length-spaced k [] h = omega arith
+length-spaced k (n ∷ ns) h =
+    omega (arith, length-append (decimal n) (spaced ns), length-below k n (h 0), length-spaced k ns (λ i. h (suc i)), mul-suc (k + 2) (length ns))
+
+-- so many bytes are enough for any line: fields of 64 bits have at most 20 digits, and commands, which are bytes, at most three
+pub length-at-most : (word fields commands : List ℕ) → ((i : ℕ) → getD fields i 0 < 2 ^ 64) → ((i : ℕ) → getD commands i 0 < 256)
+    → length (row word (fields ++ commands)) ≤ length word + 21 * length fields + 4 * length commands + 1
+length-at-most word fields commands f c =
+    omega (arith, length-row word fields commands, length-spaced 19 fields (λ i. omega (arith, f i)), length-spaced 2 commands (λ i. omega (arith, c i)))

@@ -1,0 +1,36 @@
+-- Bytes stored one run after another.
+-- The idea: two runs of stores, the second where the first ends, are one run, and a run's last byte may be stored first.
+-- Assumes nothing.
+use mathlib.Core.Path.{_≡_, sym, ap, ap₂, _∙_}
+use mathlib.Core.List.{List, [], _∷_, _++_}
+use Prim.Native.Nat.{ℕ, suc, _+_, _<_}
+use native.Mathlib.Numerals.{add-one}
+use native.Mathlib.Omega.{arith}
+use lib.ListN.{length, getD, take, set}
+use lib.Seq.{sets, set-comm, take-suc, length-take-le}
+
+sets-append : (l : List ℕ) (i : ℕ) (a b : List ℕ) → sets (sets l i a) (i + length a) b ≡ sets l i (a ++ b)
+sets-append l i [] b = ap (λ (k : ℕ). sets l k b) (omega arith)
+sets-append l i (x ∷ a) b = ap (λ (k : ℕ). sets (sets (set l i x) (suc i) a) k b) (omega arith) ∙ sets-append (set l i x) (suc i) a b
+
+-- a run that goes on where another ends
+pub sets-on : (l : List ℕ) (at : ℕ) (a b : List ℕ) {m : List ℕ} {k : ℕ} → m ≡ sets l at a → k ≡ at + length a → sets m k b ≡ sets l at (a ++ b)
+sets-on l at a b e f = ap₂ (λ (m : List ℕ) (k : ℕ). sets m k b) e f ∙ sets-append l at a b
+
+-- the byte after a run, stored before it
+pub sets-last : (l : List ℕ) (i : ℕ) (a : List ℕ) (x : ℕ) → sets (set l (i + length a) x) i a ≡ sets l i (a ++ (x ∷ []))
+sets-last l i [] x = ap (λ (k : ℕ). set l k x) (omega arith)
+sets-last l i (y ∷ a) x =
+    ap (λ (m : List ℕ). sets m (suc i) a) (set-comm l (i + suc (length a)) i x y (λ e. omega (arith, e)) ∙ ap (λ (k : ℕ). set (set l i y) k x) (omega arith))
+    ∙ sets-last (set l i y) (suc i) a x
+
+-- one element more
+pub take-next : (xs : List ℕ) (i : ℕ) → i < length xs → take (i + 1) xs ≡ take i xs ++ (getD xs i 0 ∷ [])
+take-next xs i h = ap (λ (k : ℕ). take k xs) (add-one i) ∙ take-suc xs i 0 h
+
+-- one byte more of a word
+pub word-on : (l : List ℕ) (at : ℕ) (w : List ℕ) (i : ℕ) → i < length w → {m : List ℕ} → m ≡ sets l at (take i w)
+    → set m (at + i) (getD w i 0) ≡ sets l at (take (i + 1) w)
+word-on l at w i h e =
+    sets-on l at (take i w) (getD w i 0 ∷ []) e (ap (λ (k : ℕ). at + k) (sym (length-take-le i w (omega arith))))
+    ∙ ap (λ (v : List ℕ). sets l at v) (sym (take-next w i h))

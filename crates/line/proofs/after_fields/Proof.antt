@@ -1,0 +1,66 @@
+-- `line::after_fields` meets its contract. The loop's invariant: the end is that of the first i fields. The measure is how many are left.
+-- Assumes nothing.
+use mathlib.Core.Path.{_≡_, refl, ap, _∙_}
+use mathlib.Core.List.{List}
+use Prim.Native.Nat.{ℕ, _+_, _-_, _≤_}
+use native.Mathlib.Omega.{arith}
+use denote.Ref.{now}
+use lib.ListN.{length, take}
+use lib.Seq.{take-all}
+use borrow.Author.Needs.{needs}
+use Rattle.line.specs.Lines.{spaced}
+use Rattle.line.specs.Placing.{capped}
+use Rattle.line.proofs.FieldLaws.{spaced-none, capped-on}
+use Rattle.line.proofs.after_fields.Statement.{statement}
+use Rattle.line.proofs.after_fields.Tie as tie
+
+abbrev Inv-loop : tie.InvT-loop
+Inv-loop at fields end₀ i₀ end i = (i ≤ length fields) × (end ≡ capped (at + length (spaced (take i fields))))
+
+abbrev μ-loop : tie.MeasureT-loop
+μ-loop at fields end₀ i₀ end i = length fields - i
+
+loop-holds : tie.Need-loop-holds Inv-loop μ-loop
+loop-holds c = (omega arith, omega (arith, ap length spaced-none))
+
+mul-after-field : tie.Need-mul-after-field Inv-loop μ-loop
+mul-after-field c = search needs
+
+shared-slice-read-after-field : tie.Need-shared-slice-read-after-field Inv-loop μ-loop
+shared-slice-read-after-field c = search needs
+
+after-field-requires : tie.Need-after-field-requires Inv-loop μ-loop
+after-field-requires c κs = search needs
+
+add-i : tie.Need-add-i Inv-loop μ-loop
+add-i c = omega arith
+
+loop-less : tie.Need-loop-less Inv-loop μ-loop
+loop-less c = omega arith
+
+loop-again : tie.Need-loop-again Inv-loop μ-loop
+loop-again c =
+    let t = c .before .before in
+    let l = t .before .loop in
+    let a = t .before .before .before .args in
+    (omega arith, capped-on (now (a .fields)) (l .i) (t .loop-test .taken) (a .at) _ refl (l .inv .1) (c .after-field .ensures))
+
+returns : tie.Need-returns Inv-loop μ-loop
+returns c =
+    let a = c .before .before .before .args in
+    c .before .loop .inv .1 ∙ ap (λ (ns : List ℕ). capped (a .at + length (spaced ns))) (take-all (c .before .loop .i) (now (a .fields)) (c .loop-test .left))
+
+pub after-fields-spec : {M : Type 1} → statement M
+after-fields-spec =
+    tie.close
+    (tie.spec
+    Inv-loop
+    μ-loop
+    loop-holds
+    mul-after-field
+    shared-slice-read-after-field
+    after-field-requires
+    add-i
+    loop-less
+    loop-again
+    returns)
