@@ -1,11 +1,12 @@
-//! Example sheets: those of the scope's table, the published domains that fit into 64 states, and
-//! the slide tray. Each comes with a text that says what its states and commands are.
+//! Example sheets: those of the scope's table, the scanner of the first mistake, the published
+//! domains that fit into 64 states, and the slide tray. Each comes with a text that says what its states and commands are.
 
 pub mod bench;
 pub mod bomb;
 pub mod grid;
 pub mod ring;
 pub mod robot;
+pub mod scanner;
 pub mod tray;
 
 use crate::sheet::Sheet;
@@ -40,6 +41,7 @@ impl Example {
 /// Every example, in the order in which they are written out.
 pub fn all() -> Vec<Example> {
     let mut examples = bench::examples();
+    examples.extend(scanner::examples());
     examples.extend(robot::examples());
     examples.extend(bomb::examples());
     examples.extend(grid::examples());

@@ -4,10 +4,10 @@
 mod common;
 
 use common::{bytes_of, searched, After};
-use second::examples::{self, bomb, grid, ring, robot, tray};
-use second::judge::judge;
+use second::examples::{self, bomb, grid, ring, robot, scanner, tray};
+use second::judge::{judge, Verdict};
 use second::search::Outcome;
-use second::sheet::{read, Sheet};
+use second::sheet::{read, Refusal, Sheet};
 
 /// Searches with room enough and wants a good plan of this length with this count.
 fn assert_found(sheet: &Sheet, length: usize, count: usize) -> After {
@@ -18,6 +18,16 @@ fn assert_found(sheet: &Sheet, length: usize, count: usize) -> After {
     assert!(judge(&bytes, after.plan_found()).is_good());
     after.assert_rest_untouched();
     after
+}
+
+#[test]
+fn the_first_mistake_is_refused_and_the_reset_is_not() {
+    let sheet = scanner::scanner();
+    let refused = judge(&bytes_of(&sheet), &[scanner::EJECT, scanner::CLOSE]);
+    assert_eq!(refused.verdict, Verdict::Refused(Refusal::new(11, 1)));
+    let after = assert_found(&sheet, 3, 5);
+    let reset = [scanner::RELEASE, scanner::EJECT, scanner::CLOSE];
+    assert_eq!(after.plan_found(), reset);
 }
 
 #[test]

@@ -10,3 +10,4 @@ pub mod Impostors
 pub mod Literals
 pub mod Types
 pub mod Jobs
+pub mod Told

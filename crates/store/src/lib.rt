@@ -8,7 +8,8 @@ ghost use Rattle.sets.specs.Words.{setOf};
 ghost use Rattle.store.specs.Nodes.{nothing, node, Found};
 ghost use Rattle.store.specs.Paths.{HasPath, LengthOf, WrittenBack, ReadBack};
 
-// One place of the store.
+// One place of the store, laid out as C lays it out: a function of the plugin takes a slice of them.
+#[repr(C)]
 pub struct Node {
     pub set: Set,
     pub parent: u32,
