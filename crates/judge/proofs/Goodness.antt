@@ -1,7 +1,7 @@
 -- A plan is judged good exactly when the sheet is accepted and the plan is good by its domain; and what that leaves of the better of two plans.
-use mathlib.Core.Path.{_≡_, refl, sym, ap, _∙_, subst}
-use mathlib.Core.Logic.{_↔_, _⊎_, inl, inr}
-use mathlib.Core.Bool.{Bool, true, false, true≢false}
+use mathlib.Core.Path.{_≡_, refl, sym, ap, _∙_}
+use mathlib.Core.Logic.{_↔_}
+use mathlib.Core.Bool.{true, false, true≢false}
 use mathlib.Core.List.{List, []}
 use Prim.Native.Nat.{ℕ, _≤_, _<_}
 use native.Mathlib.Omega.{arith}
@@ -21,7 +21,7 @@ use Rattle.sheet.proofs.DomainLaws.{domain-well-formed, initial-start}
 use Rattle.judge.specs.declared.Verdict.{Verdict}
 use Rattle.judge.specs.declared.Verdict.the-variants.{Good, Refused}
 use Rattle.judge.specs.declared.Judged.{Judged}
-use Rattle.judge.specs.Verdicts.{verdictOf, valuesOf, JudgedBy, GoodFor, BetterOf}
+use Rattle.judge.specs.Verdicts.{verdictOf, JudgedBy, GoodFor, BetterOf}
 
 good-is : (v : Verdict) → verdictOf v ≡ answers.good → v ≡ Good
 good-is Good e = refl

@@ -1,11 +1,10 @@
 -- The judge's promise and the better's each leave one answer: the reading is one of two, and the scope's values tell two judgements apart.
 use mathlib.Core.Path.{_≡_, refl, sym, ap, _∙_, subst}
 use mathlib.Core.Logic.{_⊎_, inl, inr, ⊎-elim, _↔_}
-use mathlib.Core.List.{List, []}
+use mathlib.Core.List.{List}
 use Prim.Native.Nat.{ℕ, _≤_, _<_}
 use native.Mathlib.Nat.{lt-of-not-le}
 use native.Mathlib.Decide.{decLe}
-use native.Mathlib.Omega.{arith}
 use denote.Ref.{RefT}
 use lib.ListN.{length}
 use Rattle.meaning.specs.Answers as answers
@@ -18,7 +17,6 @@ use Rattle.meaning.proofs.Agreement.{Blocks, blocked-is-stuck}
 use Rattle.sheet.specs.Sheet.{domainIn}
 use Rattle.sheet.specs.Answers.{reading}
 use Rattle.sheet.specs.declared.Head.{Head}
-use Rattle.sheet.specs.declared.Refusal.{Refusal}
 use Rattle.sheet.specs.declared.Reading.{Reading}
 use Rattle.sheet.specs.declared.Reading.the-variants as reading-is
 use Rattle.sheet.proofs.DomainLaws.{domain-well-formed, initial-start}

@@ -8,10 +8,7 @@ use native.Mathlib.Numerals.{add-one}
 use native.Mathlib.Omega.{arith}
 use lib.ListN.{length, getD, take, set}
 use lib.Seq.{sets, set-comm, take-suc, length-take-le}
-
-sets-append : (l : List ℕ) (i : ℕ) (a b : List ℕ) → sets (sets l i a) (i + length a) b ≡ sets l i (a ++ b)
-sets-append l i [] b = ap (λ (k : ℕ). sets l k b) (omega arith)
-sets-append l i (x ∷ a) b = ap (λ (k : ℕ). sets (sets (set l i x) (suc i) a) k b) (omega arith) ∙ sets-append (set l i x) (suc i) a b
+use Rattle.meaning.proofs.Places.{sets-append}
 
 -- a run that goes on where another ends
 pub sets-on : (l : List ℕ) (at : ℕ) (a b : List ℕ) {m : List ℕ} {k : ℕ} → m ≡ sets l at a → k ≡ at + length a → sets m k b ≡ sets l at (a ++ b)

@@ -3,9 +3,11 @@ use mathlib.Core.Path.{_≡_, refl, sym, ap, _∙_, subst}
 use mathlib.Core.Logic.{_⊎_, inl, inr, ⊎-elim}
 use mathlib.Core.Option.{some, Option·none-ne-some, Option·some-injective}
 use mathlib.Core.List.{List, [], _∷_, _++_, map}
-use Prim.Native.Nat.{ℕ, zero, suc, _<_, zero-le, suc-le-suc}
+use Prim.Native.Nat.{ℕ, zero, suc, _+_, _<_, zero-le, suc-le-suc}
+use native.Mathlib.Omega.{arith}
 use native.Mathlib.Nat.{le-of-suc-le-suc, not-suc-le-zero, suc-inj, suc-ne-zero}
-use lib.ListN.{length, take, getD}
+use lib.ListN.{length, take, getD, set}
+use lib.Seq.{sets}
 use Rattle.meaning.specs.Order.{Before}
 use Rattle.meaning.specs.Listing.{Entry, At, Sorted}
 use Rattle.meaning.proofs.OrderLaws.{before-irrefl, before-asym, compare3}
@@ -76,6 +78,11 @@ module _ {A : Type 0} where
 
   pub at-getD : {l : List A} {k : ℕ} {e : A} (d : A) → At l k e → getD l k d ≡ e
   at-getD {l} {k} d u = at-fun (getD-at l d k (at-lt u)) u
+
+  -- two runs of stores, the second where the first ends, are one run
+  pub sets-append : (l : List A) (i : ℕ) (a b : List A) → sets (sets l i a) (i + length a) b ≡ sets l i (a ++ b)
+  sets-append l i [] b = ap (λ (k : ℕ). sets l k b) (omega arith)
+  sets-append l i (x ∷ a) b = ap (λ (k : ℕ). sets (sets (set l i x) (suc i) a) k b) (omega arith) ∙ sets-append (set l i x) (suc i) a b
 
   -- two lists are equal that are as long and agree at each place
   pub at-ext : (l r : List A) → length l ≡ length r → ((k : ℕ) (e f : A) → At l k e → At r k f → e ≡ f) → l ≡ r

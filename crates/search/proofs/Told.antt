@@ -14,7 +14,6 @@ use Rattle.sheet.specs.declared.Reading.{Reading}
 use Rattle.sheet.specs.declared.Reading.the-variants as reading-is
 use Rattle.store.specs.declared.Node.{Node}
 use Rattle.search.specs.Done.{SheetSearched}
-use Rattle.search.specs.declared.Verdict.{Verdict}
 use Rattle.search.specs.declared.Verdict.the-variants.{Plan, NoPlan, Refused}
 use Rattle.search.specs.declared.Answer.{Answer}
 use Rattle.search.proofs.Means.{found-is-first, no-plan-is-good}

@@ -8,14 +8,11 @@ use native.Mathlib.Nat.{zero-add, suc-add, div-one, div-div-eq-div-mul, mul-comm
 use native.Mathlib.Numerals.{add-one}
 use native.Mathlib.Omega.{arith}
 use lib.Pow.{pow-add}
-use lib.ListN.{length, getD, take, set, length-append}
+use lib.ListN.{length, getD, take, length-append}
 use lib.Seq.{sets, take-suc, length-take-le}
+use Rattle.meaning.proofs.Places.{sets-append}
 use Rattle.sheet.specs.Bytes.{bytesOf}
 use Rattle.sheet.specs.Sheet.{Field, field, laid, setWidth}
-
-pub sets-append : (l : List ℕ) (i : ℕ) (a b : List ℕ) → sets (sets l i a) (i + length a) b ≡ sets l i (a ++ b)
-sets-append l i [] b = ap (λ (k : ℕ). sets l k b) (omega arith)
-sets-append l i (x ∷ a) b = ap (λ (k : ℕ). sets (sets (set l i x) (suc i) a) k b) (omega arith) ∙ sets-append (set l i x) (suc i) a b
 
 -- ---- a number's bytes
 

@@ -2,13 +2,13 @@
 -- The idea: where the command is there, the sheet's own law says it; where it is missing, both show nothing.
 -- Assumes nothing.
 use mathlib.Core.Path.{_≡_, refl, sym, ap, _∙_, subst₂, subst₃}
-use mathlib.Core.Bool.{Bool, true, false, cond, _&&_}
+use mathlib.Core.Bool.{Bool, true, false, cond}
 use mathlib.Core.List.{List, []}
 use Prim.Native.Nat.{ℕ}
 use lib.Dec.{ltb}
 use denote.Ref.{RefT, now}
 use Rattle.sheet.specs.Bytes.{IsPart}
-use Rattle.sheet.specs.Answers.{shownHead, reading, shownAt, shownFrom, following, followingFrom}
+use Rattle.sheet.specs.Answers.{shownAt, shownFrom, following, followingFrom}
 use Rattle.sheet.proofs.Follows.{shown-following, from-following}
 use Rattle.view.specs.Views.{statesOf, commandsOf, viewed, viewedFrom}
 use Rattle.view.specs.declared.View.{View}

@@ -12,11 +12,6 @@ use Rattle.sheet.specs.Bytes.{number}
 use Rattle.sheet.specs.Answers.{shownAt}
 use Rattle.follow.proofs.image.Statement.{statement}
 use Rattle.follow.proofs.image.Tie as tie
-use Rattle.follow.proofs.image.Reads as reads
-use Rattle.follow.proofs.image.Lts as lts
-use Rattle.sets.proofs.has.Reads as has-reads
-use Rattle.sets.proofs.union.Reads as union-reads
-use Rattle.sheet.proofs.set_at.Reads as set-at-reads
 
 abbrev Inv-loop : tie.InvT-loop
 Inv-loop sheet command set states all₀ state₀ all state = (state ≤ states) × (all ≡ walk.image (λ s. number (shownAt sheet states command s)) set state)

@@ -1,7 +1,6 @@
 -- `follow::sendable` meets its contract. The loop's invariant: each state of the set below `state` can take the command.
 use mathlib.Core.Path.{_≡_, sym, _∙_, subst}
 use mathlib.Core.Logic.{⊎-elim}
-use mathlib.Core.List.{List}
 use Prim.Native.Nat.{ℕ, _≤_, _-_}
 use native.Mathlib.Nat.{not-suc-le-zero}
 use native.Mathlib.Omega.{arith}
@@ -11,10 +10,6 @@ use Rattle.sheet.specs.Bytes.{number}
 use Rattle.sheet.specs.Answers.{shownAt}
 use Rattle.follow.proofs.sendable.Statement.{statement}
 use Rattle.follow.proofs.sendable.Tie as tie
-use Rattle.follow.proofs.sendable.Reads as reads
-use Rattle.follow.proofs.sendable.Lts as lts
-use Rattle.sets.proofs.has.Reads as has-reads
-use Rattle.sheet.proofs.set_at.Reads as set-at-reads
 
 abbrev Inv-loop : tie.InvT-loop
 Inv-loop sheet command set states state₀ state = (state ≤ states) × AllTake (λ s. number (shownAt sheet states command s)) set state

@@ -1,5 +1,5 @@
 -- `judge::better` meets its contract: each return is one of the three cases, and hands back the caller's own reference or its empty start.
-use mathlib.Core.Path.{_≡_, refl, sym, ap, _∙_}
+use mathlib.Core.Path.{refl, sym, _∙_}
 use mathlib.Core.Logic.{⊎-elim}
 use mathlib.Core.Bool.{true≢false}
 use native.Mathlib.Nat.{zero-add}
@@ -8,9 +8,6 @@ use borrow.Author.Tests.{not-true, not-false}
 use Rattle.judge.proofs.Goodness.{second-better, first-better, neither-good}
 use Rattle.judge.proofs.better.Statement.{statement}
 use Rattle.judge.proofs.better.Tie as tie
-use Rattle.judge.proofs.better.Reads as reads
-use Rattle.judge.proofs.better.Lts as lts
-use Rattle.judge.proofs.is_good.Reads as is-good-reads
 
 is-good-requires : tie.Need-is-good-requires
 is-good-requires c κs = search needs

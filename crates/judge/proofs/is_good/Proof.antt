@@ -1,12 +1,8 @@
 -- `judge::is_good` meets its contract: by what the judge's verdict means.
-use mathlib.Core.Path.{_≡_, sym, _∙_}
 use borrow.Author.Needs.{needs}
 use Rattle.judge.proofs.Goodness.{says-good, says-refused, not-good}
 use Rattle.judge.proofs.is_good.Statement.{statement}
 use Rattle.judge.proofs.is_good.Tie as tie
-use Rattle.judge.proofs.is_good.Reads as reads
-use Rattle.judge.proofs.is_good.Lts as lts
-use Rattle.judge.proofs.judge.Reads as judge-reads
 
 judge-requires : tie.Need-judge-requires
 judge-requires c κs = search needs

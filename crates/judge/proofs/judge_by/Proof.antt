@@ -1,5 +1,5 @@
 -- `judge::judge_by` meets its contract: each return is one of the four cases of the judge's answer.
-use mathlib.Core.Path.{_≡_, sym, ap, _∙_, subst}
+use mathlib.Core.Path.{_≡_, sym, ap, subst}
 use Prim.Native.Nat.{ℕ}
 use native.Mathlib.Omega.{arith}
 use borrow.Author.Needs.{needs}
@@ -11,13 +11,6 @@ use Rattle.meaning.proofs.JudgeLaws.{judges-no-command, judges-not-sendable, ju
 use Rattle.follow.specs.Following.{domainBy}
 use Rattle.judge.proofs.judge_by.Statement.{statement}
 use Rattle.judge.proofs.judge_by.Tie as tie
-use Rattle.judge.proofs.judge_by.Reads as reads
-use Rattle.judge.proofs.judge_by.Lts as lts
-use Rattle.judge.proofs.first_missing.Reads as first-missing-reads
-use Rattle.judge.proofs.refused.Reads as refused-reads
-use Rattle.judge.proofs.walk.Reads as walk-reads
-use Rattle.sets.proofs.inside.Reads as inside-reads
-use Rattle.sets.proofs.ones.Reads as ones-reads
 
 first-missing-requires : tie.Need-first-missing-requires
 first-missing-requires c κs = search needs

@@ -1,5 +1,5 @@
 -- `judge::refused` meets its contract: the number of states is the set's count of ones.
-use mathlib.Core.Path.{_≡_, ap}
+use mathlib.Core.Path.{ap}
 use Prim.Native.Nat.{ℕ}
 use borrow.Author.Needs.{needs}
 use Rattle.meaning.specs.Answers as answers

@@ -1,7 +1,6 @@
 -- `judge::walk` meets its contract. The loop's invariant: the first `at` commands are sendable in turn, and give `set`.
 use mathlib.Core.Path.{_≡_, sym, _∙_}
-use mathlib.Core.Bool.{true, false}
-use Prim.Native.Nat.{ℕ, _≤_, _-_}
+use Prim.Native.Nat.{_≤_, _-_}
 use native.Mathlib.Omega.{arith}
 use borrow.Author.Needs.{needs}
 use borrow.Author.Tests.{not-true, not-false}
@@ -11,10 +10,6 @@ use Rattle.follow.specs.Following.{domainBy}
 use Rattle.judge.proofs.Turns.{walk-starts, walk-goes-on, walk-blocked, walk-ends}
 use Rattle.judge.proofs.walk.Statement.{statement}
 use Rattle.judge.proofs.walk.Tie as tie
-use Rattle.judge.proofs.walk.Reads as reads
-use Rattle.judge.proofs.walk.Lts as lts
-use Rattle.follow.proofs.image.Reads as image-reads
-use Rattle.follow.proofs.sendable.Reads as sendable-reads
 
 abbrev Inv-loop : tie.InvT-loop
 Inv-loop head sheet plan set₀ at₀ set at = (at ≤ length plan) × Gives (step (domainBy head sheet)) (head .initial) (take at plan) set

@@ -1,14 +1,10 @@
 -- `reply::line_for` meets its contract: one line for each verdict.
-use mathlib.Core.Path.{_≡_, sym, ap, _∙_}
-use Prim.Native.Nat.{ℕ}
+use mathlib.Core.Path.{sym, ap, _∙_}
 use borrow.Author.Needs.{needs}
 use Rattle.search.specs.declared.Verdict.{Verdict}
 use Rattle.reply.specs.Replies.{verdictLine}
 use Rattle.reply.proofs.line_for.Statement.{statement}
 use Rattle.reply.proofs.line_for.Tie as tie
-use Rattle.reply.proofs.line_for.Reads as reads
-use Rattle.reply.proofs.line_for.Lts as lts
-use Rattle.reply.proofs.refusal_line.Reads as refusal-line-reads
 
 enum-told : tie.Need-enum-told
 enum-told c = search needs

@@ -5,12 +5,6 @@ use Rattle.reply.proofs.Replying.{replied}
 use borrow.Author.Needs.{needs}
 use Rattle.reply.proofs.put.Statement.{statement}
 use Rattle.reply.proofs.put.Tie as tie
-use Rattle.reply.proofs.put.Reads as reads
-use Rattle.reply.proofs.put.Lts as lts
-use Rattle.line.proofs.put.Reads as put-reads
-use Rattle.reply.proofs.at_most.Reads as at-most-reads
-use Rattle.reply.proofs.line_for.Reads as line-for-reads
-use Rattle.search.proofs.search_here.Reads as search-here-reads
 
 slice-aggregate-search-here : tie.Need-slice-aggregate-search-here
 slice-aggregate-search-here c = search needs
