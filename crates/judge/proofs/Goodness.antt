@@ -21,7 +21,7 @@ use Rattle.sheet.proofs.DomainLaws.{domain-well-formed, initial-start}
 use Rattle.judge.specs.declared.Verdict.{Verdict}
 use Rattle.judge.specs.declared.Verdict.the-variants.{Good, Refused}
 use Rattle.judge.specs.declared.Judged.{Judged}
-use Rattle.judge.specs.Verdicts.{verdictOf, JudgedBy, GoodFor, BetterOf}
+use Rattle.judge.specs.Verdicts.{verdictOf, JudgedBy, GoodFor, ChoiceOf, BetterOf}
 
 good-is : (v : Verdict) → verdictOf v ≡ answers.good → v ≡ Good
 good-is Good e = refl
@@ -48,26 +48,37 @@ module _ {l p : List ℕ} {j : Judged} (u : JudgedBy l p j) where
 pub not-good : (v : Verdict) {f : Refusal} → v ≡ Refused f → ¬ (v ≡ Good)
 not-good v e q = refused-not-good (ap verdictOf (sym e ∙ q))
 
--- ---- the better of two plans, by its three cases
+-- ---- the choice between two plans, by its three cases
 
-module _ (l : List ℕ) (a b : RefT (List ℕ)) where
-  pub second-better : GoodFor l (b .now) → (GoodFor l (a .now) → length (b .now) < length (a .now)) → BetterOf l a b b
-  second-better g h = record {
-    first = λ k le. absurd (omega (arith, h k, le g));
-    second = λ _ _. refl;
-    neither = λ _ n. absurd (n g);
-  }
+module _ (l a b : List ℕ) where
+  pub first-is : GoodFor l a → (GoodFor l b → length a ≤ length b) → ChoiceOf l a b 1
+  first-is g h = record { first = λ _ _. refl; second = λ k lt. absurd (omega (arith, h k, lt g)); neither = λ n _. absurd (n g) }
 
-  pub first-better : GoodFor l (a .now) → (GoodFor l (b .now) → length (a .now) ≤ length (b .now)) → BetterOf l a b a
-  first-better g h = record {
+  pub second-is : GoodFor l b → (GoodFor l a → length b < length a) → ChoiceOf l a b 2
+  second-is g h = record { first = λ k le. absurd (omega (arith, h k, le g)); second = λ _ _. refl; neither = λ _ n. absurd (n g) }
+
+  pub neither-is : ¬ GoodFor l a → ¬ GoodFor l b → ChoiceOf l a b 0
+  neither-is n m = record { first = λ g _. absurd (n g); second = λ g _. absurd (m g); neither = λ _ _. refl }
+
+-- what is handed back by the choice c
+module _ (l : List ℕ) (a b : RefT (List ℕ)) {c : ℕ} (u : ChoiceOf l (a .now) (b .now) c) where
+  pub hands-first : c ≡ 1 → BetterOf l a b a
+  hands-first e = record {
     first = λ _ _. refl;
-    second = λ k lt. absurd (omega (arith, h k, lt g));
-    neither = λ n _. absurd (n g);
+    second = λ g h. absurd (omega (arith, e, u .second g h));
+    neither = λ n m. absurd (omega (arith, e, u .neither n m));
   }
 
-  pub neither-good : {r : RefT (List ℕ)} → ¬ GoodFor l (a .now) → ¬ GoodFor l (b .now) → r .now ≡ [] → r .ptr ≡ a .ptr → BetterOf l a b r
-  neither-good n m e p = record {
-    first = λ g _. absurd (n g);
-    second = λ g _. absurd (m g);
+  pub hands-second : c ≡ 2 → BetterOf l a b b
+  hands-second e = record {
+    first = λ g h. absurd (omega (arith, e, u .first g h));
+    second = λ _ _. refl;
+    neither = λ n m. absurd (omega (arith, e, u .neither n m));
+  }
+
+  pub hands-nothing : {r : RefT (List ℕ)} → ¬ (c ≡ 1) → ¬ (c ≡ 2) → r .now ≡ [] → r .ptr ≡ a .ptr → BetterOf l a b r
+  hands-nothing n m e p = record {
+    first = λ g h. absurd (n (u .first g h));
+    second = λ g h. absurd (m (u .second g h));
     neither = λ _ _. (e, p);
   }

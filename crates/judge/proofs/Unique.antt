@@ -23,7 +23,7 @@ use Rattle.sheet.proofs.DomainLaws.{domain-well-formed, initial-start}
 use Rattle.judge.specs.declared.Verdict.{Verdict}
 use Rattle.judge.specs.declared.Verdict.the-variants.{Good, Refused}
 use Rattle.judge.specs.declared.Judged.{Judged}
-use Rattle.judge.specs.Verdicts.{verdictOf, placeOf, valuesOf, JudgedBy, GoodFor, BetterOf}
+use Rattle.judge.specs.Verdicts.{verdictOf, placeOf, valuesOf, JudgedBy, GoodFor, ChoiceOf, BetterOf}
 use Rattle.sheet.proofs.Readings.{not-both, accepted-inj}
 
 -- ---- the judge
@@ -74,39 +74,47 @@ good-for-dec l p = go (reading l) refl
         (good-dec (domainIn l) (domain-well-formed l h e) (initial-start l h e) (h .goal) p)
 
 -- every two plans are in one of the three cases
-data Case (l : List ℕ) (a b : RefT (List ℕ)) : Type 0 where
-  first : GoodFor l (a .now) → (GoodFor l (b .now) → length (a .now) ≤ length (b .now)) → Case l a b
-  second : GoodFor l (b .now) → (GoodFor l (a .now) → length (b .now) < length (a .now)) → Case l a b
-  neither : ¬ GoodFor l (a .now) → ¬ GoodFor l (b .now) → Case l a b
+data Case (l a b : List ℕ) : Type 0 where
+  first : GoodFor l a → (GoodFor l b → length a ≤ length b) → Case l a b
+  second : GoodFor l b → (GoodFor l a → length b < length a) → Case l a b
+  neither : ¬ GoodFor l a → ¬ GoodFor l b → Case l a b
 
-case : (l : List ℕ) (a b : RefT (List ℕ)) → Case l a b
-case l a b = go (good-for-dec l (a .now)) (good-for-dec l (b .now)) (decLe (length (a .now)) (length (b .now)))
+case : (l a b : List ℕ) → Case l a b
+case l a b = go (good-for-dec l a) (good-for-dec l b) (decLe (length a) (length b))
   where
-    go : GoodFor l (a .now) ⊎ (¬ GoodFor l (a .now)) → GoodFor l (b .now) ⊎ (¬ GoodFor l (b .now)) → Dec (length (a .now) ≤ length (b .now)) → Case l a b
+    go : GoodFor l a ⊎ (¬ GoodFor l a) → GoodFor l b ⊎ (¬ GoodFor l b) → Dec (length a ≤ length b) → Case l a b
     go (inl g) (inl h) (yes d) = first g (λ _. d)
     go (inl g) (inl h) (no d) = second h (λ _. lt-of-not-le d)
     go (inl g) (inr h) d = first g (λ k. absurd (h k))
     go (inr g) (inl h) d = second h (λ k. absurd (g k))
     go (inr g) (inr h) d = neither g h
 
+pub choice-unique : {l a b : List ℕ} {c d : ℕ} → ChoiceOf l a b c → ChoiceOf l a b d → c ≡ d
+choice-unique {l} {a} {b} {c} {d} u v = go (case l a b)
+  where
+    go : Case l a b → c ≡ d
+    go (first g h) = u .first g h ∙ sym (v .first g h)
+    go (second g h) = u .second g h ∙ sym (v .second g h)
+    go (neither g h) = u .neither g h ∙ sym (v .neither g h)
+
 module _ {l : List ℕ} {a b : RefT (List ℕ)} where
   -- one content, at one place in memory
   pub better-unique : {r s : RefT (List ℕ)} → BetterOf l a b r → BetterOf l a b s → (r .now ≡ s .now) × (r .ptr ≡ s .ptr)
-  better-unique {r} {s} u v = go (case l a b)
+  better-unique {r} {s} u v = go (case l (a .now) (b .now))
     where
       same : r ≡ s → (r .now ≡ s .now) × (r .ptr ≡ s .ptr)
       same e = (ap (λ (x : RefT (List ℕ)). x .now) e, ap (λ (x : RefT (List ℕ)). x .ptr) e)
 
-      go : Case l a b → (r .now ≡ s .now) × (r .ptr ≡ s .ptr)
+      go : Case l (a .now) (b .now) → (r .now ≡ s .now) × (r .ptr ≡ s .ptr)
       go (first g h) = same (u .first g h ∙ sym (v .first g h))
       go (second g h) = same (u .second g h ∙ sym (v .second g h))
       go (neither g h) = let x = u .neither g h in let y = v .neither g h in (x .0 ∙ sym (y .0), x .1 ∙ sym (y .1))
 
   -- it is good whenever one of the two is
   pub better-good : {r : RefT (List ℕ)} → BetterOf l a b r → GoodFor l (a .now) ⊎ GoodFor l (b .now) → GoodFor l (r .now)
-  better-good {r} u w = go (case l a b)
+  better-good {r} u w = go (case l (a .now) (b .now))
     where
-      go : Case l a b → GoodFor l (r .now)
+      go : Case l (a .now) (b .now) → GoodFor l (r .now)
       go (first g h) = subst (λ (x : RefT (List ℕ)). GoodFor l (x .now)) (sym (u .first g h)) g
       go (second g h) = subst (λ (x : RefT (List ℕ)). GoodFor l (x .now)) (sym (u .second g h)) g
       go (neither g h) = absurd (⊎-elim g h w)

@@ -45,8 +45,14 @@ pub record GoodFor (l p : List ℕ) : Type 0 where
   pub accepted : reading l ≡ reading-is.Accepted head
   pub good : runs.Good (domainIn l) (setOf (head .initial)) (setOf (head .goal)) p
 
--- r is the shorter good one of the lent plans a and b, as the caller's own bytes: the first if both are good and equally long, the one good plan if
--- only one is, and the first's empty start if neither is
+-- the shorter good one of the plans a and b: 1 for the first, also if both are good and equally long; 2 for the second; the one good plan if only one is,
+-- and 0 if neither is
+pub record ChoiceOf (l a b : List ℕ) (r : ℕ) : Type 0 where
+  pub first : GoodFor l a → (GoodFor l b → length a ≤ length b) → r ≡ 1
+  pub second : GoodFor l b → (GoodFor l a → length b < length a) → r ≡ 2
+  pub neither : ¬ GoodFor l a → ¬ GoodFor l b → r ≡ 0
+
+-- r is that one of the lent plans, as the caller's own bytes, and the first's empty start if neither is good
 pub record BetterOf (l : List ℕ) (a b r : RefT (List ℕ)) : Type 0 where
   pub first : GoodFor l (a .now) → (GoodFor l (b .now) → length (a .now) ≤ length (b .now)) → r ≡ a
   pub second : GoodFor l (b .now) → (GoodFor l (a .now) → length (b .now) < length (a .now)) → r ≡ b

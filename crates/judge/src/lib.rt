@@ -11,7 +11,7 @@ ghost use Rattle.meaning.specs.Answers.{Judges, judged};
 ghost use Rattle.meaning.specs.Sets.{Tells};
 ghost use Rattle.sets.specs.Words.{setOf};
 ghost use Rattle.follow.specs.Following.{domainBy};
-ghost use Rattle.judge.specs.Verdicts.{valuesOf, JudgedBy, GoodFor, BetterOf, FirstMissing, WalkedTo};
+ghost use Rattle.judge.specs.Verdicts.{valuesOf, JudgedBy, GoodFor, ChoiceOf, BetterOf, FirstMissing, WalkedTo};
 
 pub enum Verdict {
     Good,
@@ -122,21 +122,32 @@ fn is_good(sheet: &[u8], plan: &[u8]) -> bool
     }
 }
 
-// Of two plans the shorter good one, as the caller's own bytes; the first's empty start where neither is good.
-pub fn better<'a>(sheet: &[u8], first: &'a [u8], second: &'a [u8]) -> &'a [u8]
-    ensures { λ r. ⌜ BetterOf (now (sheet .entry)) (first .entry) (second .entry) r ⌝ }
+// Which of two plans is the better: 1 the first, 2 the second, 0 where neither is good.
+pub fn choice(sheet: &[u8], first: &[u8], second: &[u8]) -> u8
+    ensures { λ r. ⌜ ChoiceOf (now (sheet .entry)) (now (first .entry)) (now (second .entry)) r ⌝ }
 {
     let first_good = is_good(sheet, first);
     if is_good(sheet, second) {
         if !first_good {
-            return second;
+            return 2;
         }
         if second.len() < first.len() {
-            return second;
+            return 2;
         }
     }
-    if first_good {
+    if first_good { 1 } else { 0 }
+}
+
+// Of two plans the shorter good one, as the caller's own bytes; the first's empty start where neither is good.
+pub fn better<'a>(sheet: &[u8], first: &'a [u8], second: &'a [u8]) -> &'a [u8]
+    ensures { λ r. ⌜ BetterOf (now (sheet .entry)) (first .entry) (second .entry) r ⌝ }
+{
+    let which = choice(sheet, first, second);
+    if which == 1 {
         return first;
+    }
+    if which == 2 {
+        return second;
     }
     &first[0..0]
 }

@@ -1,41 +1,23 @@
--- `judge::better` meets its contract: each return is one of the three cases, and hands back the caller's own reference or its empty start.
-use mathlib.Core.Path.{refl, sym, _∙_}
-use mathlib.Core.Logic.{⊎-elim}
-use mathlib.Core.Bool.{true≢false}
+-- `judge::better` meets its contract: the choice decides, and what is handed back is the caller's own reference or its empty start.
+use mathlib.Core.Path.{refl}
 use native.Mathlib.Nat.{zero-add}
 use borrow.Author.Needs.{needs}
-use borrow.Author.Tests.{not-true, not-false}
-use Rattle.judge.proofs.Goodness.{second-better, first-better, neither-good}
+use Rattle.judge.proofs.Goodness.{hands-first, hands-second, hands-nothing}
 use Rattle.judge.proofs.better.Statement.{statement}
 use Rattle.judge.proofs.better.Tie as tie
 
-is-good-requires : tie.Need-is-good-requires
-is-good-requires c κs = search needs
-
-is-good-requires-2 : tie.Need-is-good-requires-2
-is-good-requires-2 c κs = search needs
+choice-requires : tie.Need-choice-requires
+choice-requires c κs = search needs
 
 returns : tie.Need-returns
 returns c =
-    let d = c .before .before in
-    let f = d .before in
-    let a = f .before .before .before .before .args in
-    second-better (a .sheet .now) (a .first) (a .second) (d .is-good2 .ensures .if-true (c .before .if1 .taken))
-    (λ g. absurd (f .is-good .ensures .if-false (not-true (f .is-good .result) (c .if2 .taken)) g))
+    let a = c .before .before .before .before .before .args in
+    hands-first (a .sheet .now) (a .first) (a .second) (c .before .choice .ensures) (c .if1 .taken)
 
 returns-2 : tie.Need-returns-2
 returns-2 c =
-    let d = c .before .before .before in
-    let a = d .before .before .before .before .before .args in
-    second-better (a .sheet .now) (a .first) (a .second) (d .is-good2 .ensures .if-true (c .before .before .if1 .taken)) (λ g. c .if3 .taken)
-
-returns-3 : tie.Need-returns-3
-returns-3 c =
-    let d = c .before .before in
-    let f = d .before in
-    let a = f .before .before .before .before .args in
-    first-better (a .sheet .now) (a .first) (a .second) (f .is-good .ensures .if-true (c .if4 .taken))
-    (λ g. ⊎-elim (λ w. w .2 .left) (λ w. absurd (d .is-good2 .ensures .if-false (w .left) g)) (c .before .if1 .came))
+    let a = c .before .before .before .before .before .before .args in
+    hands-second (a .sheet .now) (a .first) (a .second) (c .before .before .choice .ensures) (c .if2 .taken)
 
 sub-result : tie.Need-sub-result
 sub-result c = search needs
@@ -46,29 +28,12 @@ part-result-start c = search needs
 part-result-end : tie.Need-part-result-end
 part-result-end c = search needs
 
-returns-4 : tie.Need-returns-4
-returns-4 c =
+returns-3 : tie.Need-returns-3
+returns-3 c =
     let d = c .before .before .before in
-    let f = d .before in
-    let a = f .before .before .before .before .args in
-    neither-good (a .sheet .now) (a .first) (a .second) (f .is-good .ensures .if-false (c .before .if4 .left))
-    (⊎-elim
-    (λ w. absurd (true≢false (sym (not-false (f .is-good .result) (w .1 .left)) ∙ c .before .if4 .left)))
-    (λ w. d .is-good2 .ensures .if-false (w .left))
-    (c .before .before .if1 .came))
-    refl
+    let a = d .before .before .before .before .args in
+    hands-nothing (a .sheet .now) (a .first) (a .second) (d .choice .ensures) (c .before .before .if1 .left) (c .before .if2 .left) refl
     (λ i. (a .first .ptr .0, zero-add (a .first .ptr .1) i))
 
 pub better-spec : {M : Type 1} → statement M
-better-spec =
-    tie.close
-    (tie.spec
-    is-good-requires
-    is-good-requires-2
-    returns
-    returns-2
-    returns-3
-    sub-result
-    part-result-start
-    part-result-end
-    returns-4)
+better-spec = tie.close (tie.spec choice-requires returns returns-2 sub-result part-result-start part-result-end returns-3)

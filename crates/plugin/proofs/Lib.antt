@@ -1,0 +1,3 @@
+pub mod Shows
+pub mod Arrays
+pub mod Unique
