@@ -5,10 +5,15 @@
 //! run on the same input and compared.
 
 pub mod better;
+pub mod compare;
 pub mod examples;
 pub mod judge;
+#[cfg(proved)]
+pub mod measure;
 pub mod naive;
 pub mod printing;
+#[cfg(proved)]
+pub mod proved;
 pub mod random;
 pub mod search;
 pub mod sheet;

@@ -9,8 +9,10 @@ pub const MOST_PLACES: usize = 65_536;
 /// The command in the record of the initial set.
 pub const NO_COMMAND: u8 = 255;
 
-/// One place of the store: a set, the place it was reached from, and the command that did it.
+/// One place of the store: a set, the place it was reached from, and the command that did it. Its
+/// fields lie in memory as in the proved archive's record, so that one store can be lent to both.
 #[derive(Clone, Copy, Debug, PartialEq, Eq)]
+#[repr(C)]
 pub struct Record {
     pub set: u64,
     pub parent: u32,

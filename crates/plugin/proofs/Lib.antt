@@ -1,3 +1,4 @@
 pub mod Shows
 pub mod Arrays
+pub mod Codes
 pub mod Unique
