@@ -5,6 +5,7 @@ pub mod Tests
 pub mod StepLaws
 pub mod WalkLaws
 pub mod Agreement
+pub mod Edges
 pub mod OrderLaws
 pub mod Places
 pub mod ListingLaws
