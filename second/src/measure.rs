@@ -20,8 +20,9 @@ const BLANK: Record = Record {
 const ROOMS: [usize; 2] = [4_096, MOST_PLACES];
 /// States, commands and spread of the random sheets.
 const SHAPES: [(u64, u64, u64); 3] = [(64, 4, 2), (64, 8, 3), (48, 16, 2)];
-/// Each search is timed this often, and the shortest time counts.
-const TIMES: usize = 5;
+/// How many places the timed searches of one kind fill in all, about: each is timed as often as
+/// that takes, both sides in turn, and the shortest time counts.
+const FILLED: usize = 1_000_000;
 
 /// One measured search: its sheet, in words and in bytes, and its room.
 struct Search {
@@ -39,8 +40,7 @@ pub fn measure(output: &mut dyn Write) -> io::Result<bool> {
     writeln!(output, "|---|---|---|---|---|---|---|")?;
     let mut same = true;
     for search in searches() {
-        let (proved, answer) = fastest(&Proved, &search);
-        let (ours, expected) = fastest(&Ours, &search);
+        let [(proved, answer), (ours, expected)] = fastest(&search);
         same &= answer == expected;
         let ratio = proved.as_secs_f64() / ours.as_secs_f64();
         let [number, _, count, _] = answer;
@@ -89,19 +89,26 @@ fn random_sheet((states, commands, spread): (u64, u64, u64)) -> Sheet {
     }
 }
 
-/// The shortest time of this search, and its answer. The buffers are cleared before each timing.
-fn fastest(side: &dyn Side, search: &Search) -> (Duration, [u64; 4]) {
-    let mut shortest = Duration::MAX;
-    let mut answer = [0; 4];
-    for _ in 0..TIMES {
-        let mut store = vec![BLANK; search.room];
-        store.fill(BLANK);
-        let mut plan = vec![0; search.room];
-        let begin = Instant::now();
-        side.search(&search.sheet, &mut store, &mut plan, &mut answer);
-        shortest = shortest.min(begin.elapsed());
+/// The shortest time and the answer of this search, of the archive and of this program.
+fn fastest(search: &Search) -> [(Duration, [u64; 4]); 2] {
+    let mut best = [(Duration::MAX, [0; 4]); 2];
+    for _ in 0..FILLED / search.room {
+        for (side, (shortest, answer)) in [&Proved as &dyn Side, &Ours].into_iter().zip(&mut best) {
+            *shortest = timed(side, search, answer).min(*shortest);
+        }
     }
-    (shortest, answer)
+    best
+}
+
+/// The time of one search. The buffers are made and cleared before the clock runs.
+fn timed(side: &dyn Side, search: &Search, answer: &mut [u64; 4]) -> Duration {
+    let mut store = vec![BLANK; search.room];
+    store.fill(BLANK);
+    let mut plan = vec![0; search.room];
+    plan.fill(0);
+    let begin = Instant::now();
+    side.search(&search.sheet, &mut store, &mut plan, answer);
+    begin.elapsed()
 }
 
 /// A time in milliseconds.
