@@ -2,8 +2,8 @@
 use mathlib.Core.List.{List}
 use Prim.Native.Nat.{ℕ}
 use Rattle.meaning.specs.Domain.{Domain}
-use Rattle.sheet.specs.Bytes.{number}
-use Rattle.sheet.specs.Answers.{shownAt}
+use Rattle.numbers.specs.Bytes.{number}
+use Rattle.sheet.specs.Shown.{shownAt}
 use Rattle.sheet.specs.declared.Head.{Head}
 
 abbrev pub domainBy : Head → List ℕ → Domain

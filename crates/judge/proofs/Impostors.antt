@@ -7,7 +7,7 @@ use Rattle.meaning.specs.Walk.{sendable, image, step, walk}
 use Rattle.meaning.specs.Answers as answers
 use Rattle.meaning.specs.Answers.{judged}
 use Rattle.meaning.specs.Computed.{firstMissing, judge}
-use Rattle.sheet.specs.Bytes.{number}
+use Rattle.numbers.specs.Bytes.{number}
 use Rattle.sheet.specs.Sheet.{sheetIn, domain}
 use Rattle.sheet.proofs.Bench.{S, partial, drift, reads-S, reads-partial, reads-drift}
 use Rattle.judge.specs.declared.Judged.{Judged}

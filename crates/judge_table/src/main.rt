@@ -125,7 +125,7 @@ fn say_better<'a>(label: &[u8], sheet: &[u8], first: &'a [u8], second: &'a [u8])
 // The bytes of a sheet of two states and two commands.
 fn small(initial: u64, goal: u64, sets: [u64; 4]) -> [u8; 55] {
     let mut out = [0u8; 55];
-    sheet::write(2, 2, initial, goal, &sets, &mut out);
+    writer::write(2, 2, initial, goal, &sets, &mut out);
     out
 }
 
@@ -142,7 +142,7 @@ fn partial() -> [u8; 55] {
 fn room(initial: u64) -> [u8; 535] {
     let mut out = [0u8; 535];
     let sets = ROOM;
-    sheet::write(16, 4, initial, 2176, &sets, &mut out);
+    writer::write(16, 4, initial, 2176, &sets, &mut out);
     out
 }
 

@@ -17,13 +17,15 @@ use Rattle.meaning.specs.Computed as computed
 use Rattle.meaning.specs.Enumeration as enumeration
 use Rattle.meaning.proofs.JudgeLaws as laws
 use Rattle.sheet.specs.Sheet.{Sheet, domainIn}
-use Rattle.sheet.specs.Answers.{reading, writing}
+use Rattle.sheet.specs.Answers.{reading}
+use Rattle.writer.specs.Written.{writing}
 use Rattle.sheet.specs.declared.Refusal.{Refusal}
 use Rattle.sheet.specs.declared.Reading.{Reading}
 use Rattle.sheet.specs.declared.Reading.the-variants as reading-is
-use Rattle.sheet.specs.declared.Writing.{Writing}
-use Rattle.sheet.specs.declared.Writing.the-variants as writing-is
-use Rattle.sheet.proofs.RefusedAs.{reading-gives, writing-gives}
+use Rattle.writer.specs.declared.Writing.{Writing}
+use Rattle.writer.specs.declared.Writing.the-variants as writing-is
+use Rattle.sheet.proofs.RefusedAs.{reading-gives}
+use Rattle.writer.proofs.RefusedAs.{writing-gives}
 use Rattle.judge.specs.Verdicts.{verdictOf, GoodFor}
 use Rattle.judge.specs.declared.Verdict as judge
 use Rattle.judge.specs.declared.Verdict.the-variants as judge-is

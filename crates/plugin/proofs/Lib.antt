@@ -1,4 +1,3 @@
-pub mod Shows
 pub mod Arrays
 pub mod Codes
 pub mod Unique

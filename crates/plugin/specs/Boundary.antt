@@ -8,8 +8,8 @@ use Rattle.meaning.specs.Answers as answers
 use Rattle.sheet.specs.Answers.{following, followingFrom}
 use Rattle.sheet.specs.declared.Reading.{Reading}
 use Rattle.sheet.specs.declared.Reading.the-variants as reading-is
-use Rattle.sheet.specs.declared.Writing.{Writing}
-use Rattle.sheet.specs.declared.Writing.the-variants as writing-is
+use Rattle.writer.specs.declared.Writing.{Writing}
+use Rattle.writer.specs.declared.Writing.the-variants as writing-is
 use Rattle.judge.specs.Verdicts.{valuesOf, JudgedBy}
 use Rattle.judge.specs.declared.Judged.{Judged}
 use Rattle.store.specs.declared.Node.{Node}

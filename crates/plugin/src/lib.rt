@@ -3,20 +3,16 @@
 use judge::Judged;
 use search::Answer;
 use sheet::Reading;
-use sheet::Writing;
 use store::Node;
+use writer::Writing;
 ghost use mathlib.Core.Path.{_≡_};
 ghost use lib.ListN.{length};
 ghost use Rattle.sheet.specs.Sheet.{sheetWith};
-ghost use Rattle.sheet.specs.Answers.{reading, writing, written};
+ghost use Rattle.sheet.specs.Answers.{reading};
+ghost use Rattle.writer.specs.Written.{writing, written};
 ghost use Rattle.judge.specs.Verdicts.{valuesOf, ChoiceOf};
 ghost use Rattle.search.specs.Done.{verdictOf};
 ghost use Rattle.plugin.specs.Boundary.{verdictNumber, readNumbers, writeNumbers, followingNumbers, judgedNumbers, searchNumbers, JudgedInto, SearchedInto, SearchedHereInto};
-
-// Where the following sets stand in a sheet, and how many bytes a set has.
-const SETS_AT: usize = 23;
-
-const SET_WIDTH: usize = 8;
 
 // The numbers of an answer.
 fn read_numbers(r: Reading) -> [u64; 6]
@@ -93,7 +89,7 @@ pub extern "C" fn potuchlan_write(
     ensures { λ _. ⌜ now (answer .exit) ≡ writeNumbers (writing (sheetWith states commands initial goal (now (given .entry))) (length (now (out .entry)))) ⌝ }
     ensures { λ _. ⌜ now (out .exit) ≡ written (sheetWith states commands initial goal (now (given .entry))) (now (out .entry)) ⌝ }
 {
-    *answer = write_numbers(sheet::write(states, commands, initial, goal, given, out));
+    *answer = write_numbers(writer::write(states, commands, initial, goal, given, out));
 }
 
 // Where the bytes of a following set stand in the sheet: offset and length, both 0 where the command or the state is missing or the sheet is refused.
@@ -106,13 +102,9 @@ pub extern "C" fn potuchlan_following(
 )
     ensures { λ _. ⌜ now (answer .exit) ≡ followingNumbers (now (sheet .entry)) command state ⌝ }
 {
+    let from = sheet::following_from(sheet, command, state);
     let set = sheet::following(sheet, command, state);
-    if set.len() == SET_WIDTH {
-        let at = SETS_AT + SET_WIDTH * (command * sheet::states(sheet) + state);
-        *answer = [at as u64, SET_WIDTH as u64];
-    } else {
-        *answer = [0, 0];
-    }
+    *answer = [from as u64, set.len() as u64];
 }
 
 // Judges a plan: number (0 for good), place, set, states still possible.

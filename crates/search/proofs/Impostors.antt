@@ -13,7 +13,7 @@ use Rattle.meaning.specs.Enumeration.{hasSet, add, tried, expanded, listing}
 use Rattle.meaning.specs.Computed as computed
 use Rattle.meaning.specs.Computed.{firstInside, byLast, sameSeq, placeOf, nodeOf, nodes}
 use Rattle.meaning.proofs.Meanings.{search-exists}
-use Rattle.sheet.specs.Bytes.{number}
+use Rattle.numbers.specs.Bytes.{number}
 use Rattle.sheet.specs.Sheet.{sheetIn, domain, domainIn}
 use Rattle.sheet.specs.Answers.{reading}
 use Rattle.sheet.specs.declared.Head.{Head}

@@ -3,7 +3,7 @@
 use search::Answer;
 use search::Verdict;
 use search::search_here;
-use sheet::Writing;
+use writer::Writing;
 ghost use Prim.Native.Nat.{_≤_, _<_};
 
 // A room or a cube of side n, whose walls stop a move; the bomb in the toilet with n packages; with clogging; and with uncertain clogging.
@@ -147,7 +147,7 @@ fn write_first(d: Domain, sets: &[u64], total: usize, out: &mut [u8]) -> usize {
     if sets.len() < total {
         return 0;
     }
-    match sheet::write(
+    match writer::write(
         d.states,
         d.commands,
         d.initial,

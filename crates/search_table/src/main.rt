@@ -121,13 +121,13 @@ fn say_first(label: &[u8], bytes: &[u8], n: usize) {
 // The bytes of a sheet of two states, with two commands and with one.
 fn two(initial: u64, goal: u64, sets: [u64; 4]) -> [u8; 55] {
     let mut out = [0u8; 55];
-    sheet::write(2, 2, initial, goal, &sets, &mut out);
+    writer::write(2, 2, initial, goal, &sets, &mut out);
     out
 }
 
 fn one(initial: u64, goal: u64, sets: [u64; 2]) -> [u8; 39] {
     let mut out = [0u8; 39];
-    sheet::write(2, 1, initial, goal, &sets, &mut out);
+    writer::write(2, 1, initial, goal, &sets, &mut out);
     out
 }
 

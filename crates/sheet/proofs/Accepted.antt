@@ -5,7 +5,7 @@ use mathlib.Core.Path.{_≡_, sym, ap, _∙_}
 use mathlib.Core.Logic.{_↔_}
 use mathlib.Core.List.{List}
 use Prim.Native.Nat.{ℕ}
-use Rattle.sheet.specs.Bytes.{AreBytes}
+use Rattle.numbers.specs.Bytes.{AreBytes}
 use Rattle.sheet.specs.Sheet.{Sheet, Valid, encode, sheetIn}
 use Rattle.sheet.specs.Refusals.{headOf}
 use Rattle.sheet.specs.Answers.{reading}

@@ -9,8 +9,8 @@ use native.Mathlib.Omega.{arith}
 use lib.Dec.{eqb, ltb}
 use lib.ListN.{length}
 use borrow.Author.Tests.{le-ltb, eq-eqb, eqb-true, not-false}
-use Rattle.sheet.specs.Bytes.{numberAt}
-use Rattle.sheet.specs.Sheet.{Valid, sheetIn, setIn, countedAt, statedFor, lengthFor, version, shortest}
+use Rattle.numbers.specs.Bytes.{numberAt}
+use Rattle.sheet.specs.Sheet.{Valid, sheetIn, setIn, statedFor, lengthFor}
 use Rattle.sheet.specs.Refusals.{verdict, isUneven, headOf, stated, readingRows}
 use Rattle.sheet.specs.Answers.{reading}
 use Rattle.sheet.specs.declared.Head.{Head}
@@ -22,7 +22,7 @@ use Rattle.sheet.proofs.ByCheck.{reading-by}
 use Rattle.sheet.proofs.ValidLaws.{NoneHold, none-here, none-rest, none-cons, valid, even, passes-valid}
 
 pub record Accepts (l : List ℕ) : Type 0 where
-  pub version-is : numberAt 0 1 l ≡ version
+  pub version-is : numberAt 0 1 l ≡ 1
   pub stated-is : stated l ≡ statedFor (sheetIn l .states) (sheetIn l .commands)
   pub long : length l ≡ lengthFor (sheetIn l .states) (sheetIn l .commands)
   pub is-valid : Valid (sheetIn l)
@@ -37,10 +37,10 @@ none-accepts l n =
     let n₁ = none-rest n in
     let n₂ = none-rest n₁ in
     let n₃ = none-rest n₂ in
-    let whole : countedAt + stated l ≡ length l = eqb-true (countedAt + stated l) (length l) (not-false _ (or-false (not (eqb (countedAt + stated l) (length l))) (ltb (stated l) shortest) (none-here n₂) .0)) in
+    let whole : 5 + stated l ≡ length l = eqb-true (5 + stated l) (length l) (not-false _ (or-false (not (eqb (5 + stated l) (length l))) (ltb (stated l) 18) (none-here n₂) .0)) in
     let evenly : stated l ≡ statedFor (sheetIn l .states) (sheetIn l .commands) = eqb-true (stated l) (statedFor (sheetIn l .states) (sheetIn l .commands)) (not-false _ (even (isUneven (stated l) (headOf (sheetIn l))) (sheetIn l) n₃)) in
     record {
-      version-is = eqb-true (numberAt 0 1 l) version (not-false _ (none-here n₁));
+      version-is = eqb-true (numberAt 0 1 l) 1 (not-false _ (none-here n₁));
       stated-is = evenly;
       long = omega arith;
       is-valid = valid (isUneven (stated l) (headOf (sheetIn l))) (sheetIn l) (complete l) n₃;
@@ -49,9 +49,9 @@ none-accepts l n =
 pub accepts-none : (l : List ℕ) → Accepts l → NoneHold (readingRows l)
 unfolding readingRows
 accepts-none l a =
-    none-cons (le-ltb (length l) countedAt (omega (arith, a .long)))
-    (none-cons (ap not (eq-eqb (numberAt 0 1 l) version (a .version-is)))
-    (none-cons (both-false (ap not (eq-eqb (countedAt + stated l) (length l) (omega (arith, a .long, a .stated-is)))) (le-ltb (stated l) shortest (omega (arith, a .stated-is))))
+    none-cons (le-ltb (length l) 5 (omega (arith, a .long)))
+    (none-cons (ap not (eq-eqb (numberAt 0 1 l) 1 (a .version-is)))
+    (none-cons (both-false (ap not (eq-eqb (5 + stated l) (length l) (omega (arith, a .long, a .stated-is)))) (le-ltb (stated l) 18 (omega (arith, a .stated-is))))
     (passes-valid (isUneven (stated l) (headOf (sheetIn l))) (sheetIn l) (ap not (eq-eqb (stated l) (statedFor (sheetIn l .states) (sheetIn l .commands)) (a .stated-is))) (a .is-valid))))
 
 -- ---- the answer

@@ -2,8 +2,8 @@
 use mathlib.Core.Path.{_≡_, refl}
 use mathlib.Core.List.{List, [], _∷_}
 use Prim.Native.Nat.{ℕ}
-use Rattle.sheet.specs.Bytes.{number, bytesOf}
-use Rattle.sheet.specs.Sheet.{sheetWith, laid, encode, sheetIn}
+use Rattle.numbers.specs.Bytes.{number, bytesOf, bytesOfEach}
+use Rattle.sheet.specs.Sheet.{sheetWith, encode, sheetIn}
 use Rattle.sheet.specs.Refusals.{verdict, headRows, setRows, headWith, readingRows}
 use Rattle.sheet.specs.Answers.{reading}
 use Rattle.sheet.specs.declared.Reading.the-variants.{Accepted}
@@ -65,5 +65,5 @@ reads-drift = refl
 -- ---- from the sheet to its bytes: the scope's hexadecimal
 
 pub s-encoded : encode (sheetWith 2 2 3 1 (2 ∷ 1 ∷ 1 ∷ 1 ∷ [])) ≡ S 1
-unfolding laid bytesOf
+unfolding bytesOf bytesOfEach
 s-encoded = refl

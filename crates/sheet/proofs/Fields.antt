@@ -1,71 +1,81 @@
--- From numbers to bytes and back: the fields of a sheet read back from its bytes, and bytes laid out again from the numbers in them.
--- The idea: bytes of one length that stand for one number are equal; a field stands after the widths of those before it.
+-- The layout as a list of fields, each a width and a content: a sheet's bytes are its fields laid out one after the other, each field is read back from where it
+-- stands, and bytes are laid out again from the numbers in them.
+-- The idea: a field stands after the widths of those before it.
 -- Assumes nothing.
-use mathlib.Core.Path.{_≡_, refl, sym, ap, ap₂, _∙_, subst}
-use mathlib.Core.List.{List, [], _∷_, _++_}
-use Prim.Native.Nat.{ℕ, zero, suc, _+_, _*_, _/_, _%_, _^_, _≤_, _<_}
-use native.Mathlib.Nat.{pow-suc, mul-comm, mod-lt, mod-eq-of-lt, mod-one, lt-of-not-le}
+use mathlib.Core.Path.{_≡_, refl, sym, ap, ap₂, _∙_}
+use mathlib.Core.List.{List, [], _∷_, _++_, map, append-assoc, append-nil}
+use Prim.Native.Nat.{ℕ, _+_, _*_, _^_, _≤_, _<_}
 use native.Mathlib.Omega.{arith}
-use lib.Arith.{mod-mul, digits-lt, digits-div, digits-mod}
-use native.Mathlib.Decide.{decLt}
-use lib.ListN.{length, getD, take, drop, length-take, List·getD-eq-default}
-use lib.Seq.{take-at, drop-at, getD-take, getD-drop}
-use Rattle.sheet.specs.Bytes.{number, bytesOf, part, numberAt, AreBytes}
-use Rattle.sheet.specs.Sheet.{Field, field, laid}
-use Rattle.sheet.proofs.Numbers.{part-add, length-part}
-use Rattle.sheet.proofs.Stores.{length-bytes, widths, length-laid, laid-append}
+use lib.ListN.{length, take, length-append}
+use lib.Seq.{take-at, drop-at}
+use Rattle.numbers.specs.Bytes.{number, bytesOf, bytesOfEach, part, numberAt, AreBytes}
+use Rattle.numbers.proofs.Numbers.{part-add, length-part}
+use Rattle.numbers.proofs.Storing.{length-bytes}
+use Rattle.numbers.proofs.Inverse.{number-of-bytes, bytes-of-number, part-bytes}
+use Rattle.sheet.specs.Sheet.{Sheet, setWidth, statedFor, lengthFor, headBytes, encode}
 
-pow-256 : (k : ℕ) → zero < 256 ^ k
-pow-256 zero = omega arith
-pow-256 (suc k) = omega (arith, pow-suc 256 k, pow-256 k)
+-- a number in so many bytes
+pub record Field : Type 0 where
+  pub width : ℕ
+  pub content : ℕ
 
--- ---- a number's bytes stand for it
+abbrev pub field : ℕ → ℕ → Field
+field w n = record { width = w; content = n }
 
-pub number-bytes : (k n : ℕ) → number (bytesOf k n) ≡ n % 256 ^ k
-unfolding number bytesOf
-number-bytes zero n = sym (mod-one n)
-number-bytes (suc k) n =
-    ap₂ (λ (j m : ℕ). n / 256 ^ k % 256 * 256 ^ j + m) (length-bytes k n) (number-bytes k n)
-    ∙ sym (ap (λ (m : ℕ). n % m) (pow-suc 256 k ∙ mul-comm (256 ^ k) 256) ∙ mod-mul n {m = 256} {c = 256 ^ k} (omega arith) (pow-256 k))
+unfoldable pub laid : List Field → List ℕ
+laid [] = []
+laid (f ∷ fs) = bytesOf (f .width) (f .content) ++ laid fs
 
-pub number-of-bytes : (k n : ℕ) → n < 256 ^ k → number (bytesOf k n) ≡ n
-number-of-bytes k n h = number-bytes k n ∙ mod-eq-of-lt h
+-- the bytes of some fields
+abbrev pub widths : List Field → ℕ
+widths [] = 0
+widths (f ∷ fs) = f .width + widths fs
 
--- ---- bytes are a number's bytes
+pub length-laid : (fs : List Field) → length (laid fs) ≡ widths fs
+unfolding laid
+length-laid [] = refl
+length-laid (f ∷ fs) = length-append (bytesOf (f .width) (f .content)) (laid fs) ∙ ap₂ (λ (m n : ℕ). m + n) (length-bytes (f .width) (f .content)) (length-laid fs)
 
-tail-bytes : {b : ℕ} {bs : List ℕ} → AreBytes (b ∷ bs) → AreBytes bs
-tail-bytes a = record { each = λ i. a .each (suc i) }
+pub laid-append : (fs gs : List Field) → laid (fs ++ gs) ≡ laid fs ++ laid gs
+unfolding laid
+laid-append [] gs = refl
+laid-append (f ∷ fs) gs = ap (λ (r : List ℕ). bytesOf (f .width) (f .content) ++ r) (laid-append fs gs) ∙ sym (append-assoc (bytesOf (f .width) (f .content)) (laid fs) (laid gs))
 
-pub number-lt : (bs : List ℕ) → AreBytes bs → number bs < 256 ^ length bs
-unfolding number
-number-lt [] a = omega arith
-number-lt (b ∷ bs) a = subst (λ (m : ℕ). b * 256 ^ length bs + number bs < m) (mul-comm 256 (256 ^ length bs) ∙ sym (pow-suc 256 (length bs))) (digits-lt {q = b} {m = 256} (a .each 0) (number-lt bs (tail-bytes a)))
+-- ---- the fields of a sheet
 
-pub number-one : (bs cs : List ℕ) → AreBytes bs → AreBytes cs → length bs ≡ length cs → number bs ≡ number cs → bs ≡ cs
-unfolding number
-number-one [] [] a b e f = refl
-number-one [] (c ∷ cs) a b e f = absurd (omega (arith, e))
-number-one (x ∷ bs) [] a b e f = absurd (omega (arith, e))
-number-one (x ∷ bs) (c ∷ cs) a b e f =
-    let same : length bs ≡ length cs = omega (arith, e) in
-    let p = 256 ^ length cs in
-    let r : number bs < p = subst (λ (k : ℕ). number bs < 256 ^ k) same (number-lt bs (tail-bytes a)) in
-    let q : number cs < p = number-lt cs (tail-bytes b) in
-    let g : x * p + number bs ≡ c * p + number cs = ap (λ (k : ℕ). x * 256 ^ k + number bs) (sym same) ∙ f in
-    ap₂ (λ (y : ℕ) (ys : List ℕ). y ∷ ys)
-    (sym (digits-div x r) ∙ ap (λ (m : ℕ). m / p) g ∙ digits-div c q)
-    (number-one bs cs (tail-bytes a) (tail-bytes b) same (sym (digits-mod x r) ∙ ap (λ (m : ℕ). m % p) g ∙ digits-mod c q))
+abbrev pub headFields : ℕ → ℕ → ℕ → ℕ → List Field
+headFields states commands initial goal =
+    field 1 1 ∷
+    field 4 (statedFor states commands) ∷
+    field 1 states ∷
+    field 1 commands ∷
+    field setWidth initial ∷
+    field setWidth goal ∷
+    []
 
-byte-lt : (k n i : ℕ) → getD (bytesOf k n) i 0 < 256
-unfolding bytesOf
-byte-lt zero n i = omega arith
-byte-lt (suc k) n zero = mod-lt (n / 256 ^ k) (omega arith)
-byte-lt (suc k) n (suc i) = byte-lt k n i
+abbrev pub fields : Sheet → List Field
+fields s = headFields (s .states) (s .commands) (s .initial) (s .goal) ++ map (field setWidth) (s .sets)
 
-pub bytes-of-number : (bs : List ℕ) (k : ℕ) → length bs ≡ k → AreBytes bs → bytesOf k (number bs) ≡ bs
-bytes-of-number bs k e a =
-    number-one (bytesOf k (number bs)) bs (record { each = byte-lt k (number bs) }) a (length-bytes k (number bs) ∙ sym e)
-    (number-of-bytes k (number bs) (subst (λ (m : ℕ). number bs < 256 ^ m) e (number-lt bs a)))
+pub widths-sets : (xs : List ℕ) → widths (map (field setWidth) xs) ≡ setWidth * length xs
+widths-sets [] = refl
+widths-sets (x ∷ xs) = omega (arith, widths-sets xs)
+
+pub laid-head : (states commands initial goal : ℕ) → laid (headFields states commands initial goal) ≡ headBytes states commands initial goal
+unfolding laid
+laid-head states commands initial goal = simp (append-assoc, append-nil)
+
+pub laid-sets : (xs : List ℕ) → laid (map (field setWidth) xs) ≡ bytesOfEach setWidth xs
+unfolding laid bytesOfEach
+laid-sets [] = refl
+laid-sets (x ∷ xs) = ap (λ (r : List ℕ). bytesOf setWidth x ++ r) (laid-sets xs)
+
+pub laid-sheet : (s : Sheet) → laid (fields s) ≡ encode s
+laid-sheet s =
+    laid-append (headFields (s .states) (s .commands) (s .initial) (s .goal)) (map (field setWidth) (s .sets))
+    ∙ ap₂ (λ (b c : List ℕ). b ++ c) (laid-head (s .states) (s .commands) (s .initial) (s .goal)) (laid-sets (s .sets))
+
+pub length-encode : (s : Sheet) → length (s .sets) ≡ s .commands * s .states → length (encode s) ≡ lengthFor (s .states) (s .commands)
+length-encode s e = ap length (sym (laid-sheet s)) ∙ length-laid (fields s) ∙ omega (arith, widths-sets (s .sets))
 
 -- ---- a field of those that are laid out
 
@@ -86,16 +96,6 @@ fieldsIn (w ∷ ws) at l = field w (numberAt at w l) ∷ fieldsIn ws (at + w) l
 abbrev pub total : List ℕ → ℕ
 total [] = 0
 total (w ∷ ws) = w + total ws
-
-part-bytes : (at k : ℕ) (l : List ℕ) → AreBytes l → AreBytes (part at k l)
-part-bytes at k l a = record { each = λ i. go i (decLt i k) }
-  where
-    go : (i : ℕ) → Dec (i < k) → getD (part at k l) i 0 < 256
-    go i (yes h) = subst (λ (x : ℕ). x < 256) (sym (getD-take k (drop at l) i 0 h ∙ getD-drop at l i 0)) (a .each (at + i))
-    go i (no h) = subst (λ (x : ℕ). x < 256) (sym (List·getD-eq-default (part at k l) 0 (past h))) (omega arith)
-      where
-        past : ¬ (i < k) → length (part at k l) ≤ i
-        past h = simp length-take (omega (arith, lt-of-not-le h))
 
 pub laid-in : (ws : List ℕ) (at : ℕ) (l : List ℕ) → AreBytes l → at + total ws ≤ length l → laid (fieldsIn ws at l) ≡ part at (total ws) l
 unfolding laid

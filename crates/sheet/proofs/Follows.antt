@@ -11,9 +11,10 @@ use lib.Arith.{digits-lt}
 use lib.Dec.{ltb, leb}
 use lib.ListN.{length, getD}
 use borrow.Author.Tests.{lt-ltb, le-ltb, le-leb, lt-leb, ltb-true, ltb-false}
-use Rattle.sheet.specs.Bytes.{number, part}
+use Rattle.numbers.specs.Bytes.{number, part}
 use Rattle.sheet.specs.Sheet.{sheetIn, domain, domainIn, setOffset, setIn, setWidth, lengthFor, statesIn, commandsIn}
-use Rattle.sheet.specs.Answers.{shownHead, reading, isShown, shownAt, shownFrom, followingBy, following, followingFrom}
+use Rattle.sheet.specs.Answers.{shownHead, reading, followingBy, following, followingFrom}
+use Rattle.sheet.specs.Shown.{isShown, shownAt, shownFrom}
 use Rattle.sheet.specs.declared.Head.{Head}
 use Rattle.sheet.specs.declared.Reading.{Reading}
 use Rattle.sheet.specs.declared.Reading.the-variants.{Accepted, Refused}

@@ -1,4 +1,3 @@
-pub mod Numbers
 pub mod Rows
 pub mod Shown
 pub mod ReadLaws
@@ -7,13 +6,10 @@ pub mod Readings
 pub mod ByCheck
 pub mod Accepts
 pub mod Follows
-pub mod Stores
-pub mod WriteLaws
 pub mod Fields
 pub mod RoundTrip
 pub mod Accepted
 pub mod RefusedAs
-pub mod ReadWritten
 pub mod Unique
 pub mod DomainLaws
 pub mod Bench

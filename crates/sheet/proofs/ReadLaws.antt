@@ -7,7 +7,7 @@ use Prim.Native.Nat.{ℕ, _+_, _*_, _≤_}
 use native.Mathlib.Omega.{arith}
 use lib.ListN.{length, getD}
 use borrow.Author.Tests.{le-ltb, eq-eqb, eqb-true, not-false}
-use Rattle.sheet.specs.Sheet.{Sheet, sheetIn, setsAt, countedAt, shortest, setIn, from, statedFor}
+use Rattle.sheet.specs.Sheet.{Sheet, sheetIn, setsAt, setIn, from, statedFor}
 use Rattle.sheet.specs.Refusals.{Row, verdict, isUneven, headRows, headOf, setRows, sheetRows, stated, readingRows}
 use Rattle.sheet.specs.Answers.{reading}
 use Rattle.sheet.specs.declared.Head.{Head}
@@ -15,7 +15,7 @@ use Rattle.sheet.specs.declared.Reading.{Reading}
 use Rattle.sheet.specs.declared.Reading.the-variants.{Accepted, Refused}
 use Rattle.sheet.specs.declared.Check.{Check}
 use Rattle.sheet.specs.declared.Check.the-variants.{Passed, Failed}
-use Rattle.sheet.proofs.Numbers.{numberAt-one}
+use Rattle.numbers.proofs.Numbers.{numberAt-one}
 use Rattle.sheet.proofs.Rows.{onCheck, checked, by-check, passes-here, passes-rest, product, most}
 
 -- rows 4 to 7 by a stated length
@@ -45,7 +45,7 @@ module _ (l : List ℕ) where
   answerBySets = verdict Refused (Accepted (headOf (sheetIn l))) (setRows (sheetIn l .states) setsAt (sheetIn l .sets))
 
   -- rows 1 to 3 pass
-  pub reading-on : countedAt ≤ length l → getD l 0 0 ≡ 1 → countedAt + stated l ≡ length l → shortest ≤ stated l → reading l ≡ answerBy (stated l)
+  pub reading-on : 5 ≤ length l → getD l 0 0 ≡ 1 → 5 + stated l ≡ length l → 18 ≤ stated l → reading l ≡ answerBy (stated l)
   unfolding reading readingRows verdict
   reading-on h v s m = simp (le-ltb _ _ h, numberAt-one 0 l (omega arith), eq-eqb _ _ v, eq-eqb _ _ s, le-ltb _ _ m)
 

@@ -1,27 +1,23 @@
--- A number is given, with its place, exactly where its row's condition holds and no earlier row's does; for reading and for writing. Reading gives only 1 to 8, and
--- writing only 4 to 9.
+-- A number is given, with its place, exactly where its row's condition holds and no earlier row's does. Reading gives only 1 to 8.
 -- The idea: by the rows, one at a time.
 -- Assumes nothing.
 use mathlib.Core.Path.{_≡_, refl, sym, ap, _∙_, subst}
 use mathlib.Core.Logic.{_↔_}
-use mathlib.Core.Bool.{Bool, true, false, cond, not}
+use mathlib.Core.Bool.{Bool, true, false, cond}
 use mathlib.Core.Option.{some}
 use mathlib.Core.List.{List, [], _∷_, _++_}
-use Prim.Native.Nat.{ℕ, zero, suc, _+_, _*_, _<_, _≤_}
+use Prim.Native.Nat.{ℕ, zero, suc, _+_, _<_, _≤_}
 use native.Mathlib.Omega.{arith}
-use lib.Dec.{eqb}
-use lib.ListN.{length, getElem?}
-use Rattle.sheet.specs.Sheet.{Sheet, sheetIn, lengthFor, setsAt, setWidth}
-use Rattle.sheet.specs.Refusals.{Row, verdict, headOf, headRows, setRows, sheetRows, roomRow, isUneven, stated, readingRows, writingRows}
-use Rattle.sheet.specs.Answers.{reading, writing}
+use lib.ListN.{getElem?}
+use Rattle.sheet.specs.Sheet.{Sheet, sheetIn, setsAt, setWidth}
+use Rattle.sheet.specs.Refusals.{Row, verdict, headOf, headRows, setRows, sheetRows, isUneven, stated, readingRows}
+use Rattle.sheet.specs.Answers.{reading}
 use Rattle.sheet.specs.declared.Refusal.{Refusal}
 use Rattle.sheet.specs.declared.Head.{Head}
 use Rattle.sheet.specs.declared.Reading.the-variants.{Accepted, Refused}
-use Rattle.sheet.specs.declared.Writing.{Writing}
-use Rattle.sheet.specs.declared.Writing.the-variants as writing-is
 use Rattle.sheet.specs.declared.Check.{Check}
 use Rattle.sheet.specs.declared.Check.the-variants.{Passed, Failed}
-use Rattle.sheet.proofs.ByCheck.{reading-by, writing-by}
+use Rattle.sheet.proofs.ByCheck.{reading-by}
 use Rattle.sheet.proofs.Rows.{onCheck, holds-here, holds-not}
 
 -- the refusal q by a row whose condition holds, where no earlier row's does
@@ -60,7 +56,7 @@ given-fails rs q g = go rs (g .at) (g .holds-there) (g .none-before)
         holds-here Failed Passed r rs (ap (λ (o : Row). o .holds) f) ∙ ap (λ (o : Row). Failed (o .gives)) f
     go (r ∷ rs) (suc k) e n = holds-not Failed Passed r rs (n zero r (omega arith) refl) ∙ go rs k e (λ j p h. n (suc j) p (omega arith))
 
--- ---- for reading and for writing
+-- ---- for reading
 
 pub refused-as : (l : List ℕ) (q : Refusal) → (reading l ≡ Refused q) ↔ Given (readingRows l) q
 refused-as l q = (λ e. fails-given (readingRows l) q (there (verdict Failed Passed (readingRows l)) (sym (reading-by l) ∙ e)), λ g. reading-by l ∙ ap (λ (k : Check). onCheck Refused (Accepted (headOf (sheetIn l))) k) (given-fails (readingRows l) q g))
@@ -69,27 +65,17 @@ refused-as l q = (λ e. fails-given (readingRows l) q (there (verdict Failed Pas
     there Passed e = absurd (let z : _≡_ {A = ℕ} 0 1 = cc in omega arith)
     there (Failed p) e = let f : p ≡ q = cc in ap Failed f
 
-pub write-refused-as : (s : Sheet) (room : ℕ) (q : Refusal) → (writing s room ≡ writing-is.Refused q) ↔ Given (writingRows s room) q
-write-refused-as s room q = (λ e. fails-given (writingRows s room) q (there (verdict Failed Passed (writingRows s room)) (sym (writing-by s room) ∙ e)), λ g. writing-by s room ∙ ap (λ (k : Check). onCheck writing-is.Refused done k) (given-fails (writingRows s room) q g))
-  where
-    done : Writing
-    done = writing-is.Written (lengthFor (s .states) (s .commands))
-
-    there : (k : Check) → onCheck writing-is.Refused done k ≡ writing-is.Refused q → k ≡ Failed q
-    there Passed e = absurd (let z : _≡_ {A = ℕ} 0 1 = cc in omega arith)
-    there (Failed p) e = let f : p ≡ q = cc in ap Failed f
-
--- ---- reading gives only 1 to 8, and writing only 4 to 9
+-- ---- reading gives only 1 to 8
 
 abbrev pub Between : ℕ → ℕ → Refusal → Type 0
 Between low high q = (low ≤ q .number) × (q .number ≤ high)
 
 -- each row gives a number of those
-abbrev Each : ℕ → ℕ → List Row → Type 0
+abbrev pub Each : ℕ → ℕ → List Row → Type 0
 Each low high [] = Unit {0}
 Each low high (r ∷ rs) = Between low high (r .gives) × Each low high rs
 
-each-append : (low high : ℕ) (rs qs : List Row) → Each low high rs → Each low high qs → Each low high (rs ++ qs)
+pub each-append : (low high : ℕ) (rs qs : List Row) → Each low high rs → Each low high qs → Each low high (rs ++ qs)
 each-append low high [] qs a b = b
 each-append low high (r ∷ rs) qs a b = (a .0, each-append low high rs qs (a .1) b)
 
@@ -106,11 +92,11 @@ wider : (low high : ℕ) → low ≤ 4 → 7 ≤ high → (rs : List Row) → Ea
 wider low high l h [] e = tt
 wider low high l h (r ∷ rs) e = ((omega (arith, e .0 .0), omega (arith, e .0 .1)), wider low high l h rs (e .1))
 
-each-sheet : (low high : ℕ) → low ≤ 4 → 8 ≤ high → (uneven : Bool) (s : Sheet) → Each low high (sheetRows uneven s)
+pub each-sheet : (low high : ℕ) → low ≤ 4 → 8 ≤ high → (uneven : Bool) (s : Sheet) → Each low high (sheetRows uneven s)
 each-sheet low high l h uneven s =
     each-append low high (headRows uneven (headOf s)) (setRows (s .states) setsAt (s .sets)) (wider low high l (omega arith) (headRows uneven (headOf s)) (each-head uneven (headOf s))) (each-set low high (omega arith) h (s .states) setsAt (s .sets))
 
-each-gives : (low high : ℕ) (rs : List Row) (q : Refusal) → Each low high rs → verdict Failed Passed rs ≡ Failed q → Between low high q
+pub each-gives : (low high : ℕ) (rs : List Row) (q : Refusal) → Each low high rs → verdict Failed Passed rs ≡ Failed q → Between low high q
 unfolding verdict
 each-gives low high [] q e f = absurd (let z : _≡_ {A = ℕ} 0 1 = cc in omega arith)
 each-gives low high (r ∷ rs) q e f = go (r .holds) f (each-gives low high rs q (e .1))
@@ -123,8 +109,3 @@ pub reading-gives : (l : List ℕ) (q : Refusal) → reading l ≡ Refused q →
 unfolding readingRows
 reading-gives l q e =
     each-gives 1 8 (readingRows l) q (omega arith, (omega arith, (omega arith, each-sheet 1 8 (omega arith) (omega arith) (isUneven (stated l) (headOf (sheetIn l))) (sheetIn l)))) (given-fails (readingRows l) q (refused-as l q .0 e))
-
-pub writing-gives : (s : Sheet) (room : ℕ) (q : Refusal) → writing s room ≡ writing-is.Refused q → Between 4 9 q
-unfolding writingRows
-writing-gives s room q e =
-    each-gives 4 9 (writingRows s room) q (each-append 4 9 (sheetRows (not (eqb (length (s .sets)) (s .commands * s .states))) s) (roomRow s room ∷ []) (each-sheet 4 9 (omega arith) (omega arith) (not (eqb (length (s .sets)) (s .commands * s .states))) s) (omega arith)) (given-fails (writingRows s room) q (write-refused-as s room q .0 e))

@@ -9,10 +9,10 @@ use native.Mathlib.Omega.{arith}
 use lib.Dec.{ltb, leb}
 use lib.ListN.{length}
 use borrow.Author.Tests.{ltb-true, leb-true}
-use Rattle.sheet.specs.Bytes.{part}
+use Rattle.numbers.specs.Bytes.{part}
 use Rattle.sheet.specs.Sheet.{setOffset, setWidth}
-use Rattle.sheet.specs.Answers.{isShown, shownFrom, shownAt}
-use Rattle.sheet.proofs.Numbers.{length-part}
+use Rattle.sheet.specs.Shown.{isShown, shownFrom, shownAt}
+use Rattle.numbers.proofs.Numbers.{length-part}
 use Rattle.sheet.proofs.Rows.{product}
 
 pub and-true : (a b : Bool) → (a && b) ≡ true → (a ≡ true) × (b ≡ true)

@@ -1,15 +1,13 @@
--- Two answers that a contract permits are equal, and so are two contents of the output.
+-- Two answers that a contract permits are equal.
 -- The idea: each contract is an equation with a definition, for a part one for its content and one for its place.
 -- Assumes nothing.
 use mathlib.Core.Path.{_≡_, sym, _∙_}
 use mathlib.Core.List.{List}
 use Prim.Native.Nat.{ℕ}
-use Rattle.sheet.specs.Sheet.{Sheet}
 use denote.Ref.{RefT}
-use Rattle.sheet.specs.Bytes.{IsPart}
-use Rattle.sheet.specs.Answers.{reading, following, Wrote, followingFrom}
+use Rattle.numbers.specs.Bytes.{IsPart}
+use Rattle.sheet.specs.Answers.{reading, following, followingFrom}
 use Rattle.sheet.specs.declared.Reading.{Reading}
-use Rattle.sheet.specs.declared.Writing.{Writing}
 
 -- whatever an equation fixes: the counts of states and commands, and the set at a command and a state, too
 pub one-answer : {A : Type 0} {x y z : A} → x ≡ z → y ≡ z → x ≡ y
@@ -17,9 +15,6 @@ one-answer p q = p ∙ sym q
 
 pub read-unique : (l : List ℕ) (r q : Reading) → r ≡ reading l → q ≡ reading l → r ≡ q
 read-unique l r q = one-answer
-
-pub write-unique : (s : Sheet) (before after other : List ℕ) (r q : Writing) → Wrote s before after r → Wrote s before other q → (r ≡ q) × (after ≡ other)
-write-unique s before after other r q v w = (one-answer (v .answer) (w .answer), one-answer (v .output) (w .output))
 
 -- a part of the lent bytes has one content, at one place in memory
 pub part-unique : {s p q : RefT (List ℕ)} {from : ℕ} {content : List ℕ} → IsPart s from content p → IsPart s from content q → (p .now ≡ q .now) × (p .ptr ≡ q .ptr)

@@ -1,4 +1,4 @@
-pub mod Bytes
 pub mod Sheet
 pub mod Refusals
 pub mod Answers
+pub mod Shown

@@ -1,12 +1,12 @@
--- The table of refusals: each row's condition, number and place, in the table's order, for reading (1 to 8) and for writing (4 to 9). The first row whose condition
--- holds decides.
+-- The table of refusals: each row's condition, number and place, in the table's order, for reading (1 to 8). The first row whose condition holds decides. Writing has rows 4 to 8
+-- from here, and row 9 beside them.
 use mathlib.Core.Bool.{Bool, cond, not, _||_}
 use mathlib.Core.List.{List, [], _∷_, _++_}
 use Prim.Native.Nat.{ℕ, _+_, _*_, _^_}
 use lib.Dec.{eqb, leb, ltb}
 use lib.ListN.{length}
-use Rattle.sheet.specs.Bytes.{numberAt}
-use Rattle.sheet.specs.Sheet.{Sheet, sheetIn, version, setWidth, statedAt, countedAt, statesAt, commandsAt, initialAt, goalAt, setsAt, shortest, statedFor, lengthFor}
+use Rattle.numbers.specs.Bytes.{numberAt}
+use Rattle.sheet.specs.Sheet.{Sheet, sheetIn, setWidth, setsAt, statedFor}
 use Rattle.sheet.specs.declared.Refusal.{Refusal}
 use Rattle.sheet.specs.declared.Head.{Head}
 
@@ -41,11 +41,11 @@ setRows states at (x ∷ xs) = row (missing states x) 8 at ∷ setRows states (a
 -- rows 4 to 7, and with the following sets 4 to 8. `uneven` is the condition of row 5, which reading and writing word each in its way.
 unfoldable pub headRows : Bool → Head → List Row
 headRows uneven h =
-    row (outside 1 64 (h .states)) 4 statesAt ∷
-    row (outside 1 32 (h .commands)) 4 commandsAt ∷
-    row uneven 5 statedAt ∷
-    row (eqb (h .initial) 0 || missing (h .states) (h .initial)) 6 initialAt ∷
-    row (missing (h .states) (h .goal)) 7 goalAt ∷
+    row (outside 1 64 (h .states)) 4 5 ∷
+    row (outside 1 32 (h .commands)) 4 6 ∷
+    row uneven 5 1 ∷
+    row (eqb (h .initial) 0 || missing (h .states) (h .initial)) 6 7 ∷
+    row (missing (h .states) (h .goal)) 7 15 ∷
     []
 
 abbrev pub headWith : ℕ → ℕ → ℕ → ℕ → Head
@@ -58,7 +58,7 @@ abbrev pub sheetRows : Bool → Sheet → List Row
 sheetRows uneven s = headRows uneven (headOf s) ++ setRows (s .states) setsAt (s .sets)
 
 abbrev pub stated : List ℕ → ℕ
-stated l = numberAt statedAt 4 l
+stated l = numberAt 1 4 l
 
 -- row 5's condition by a stated length
 abbrev pub isUneven : ℕ → Head → Bool
@@ -66,14 +66,7 @@ isUneven n h = not (eqb n (statedFor (h .states) (h .commands)))
 
 unfoldable pub readingRows : List ℕ → List Row
 readingRows l =
-    row (ltb (length l) countedAt) 1 (length l) ∷
-    row (not (eqb (numberAt 0 1 l) version)) 2 0 ∷
-    row (not (eqb (countedAt + stated l) (length l)) || ltb (stated l) shortest) 3 statedAt ∷
+    row (ltb (length l) 5) 1 (length l) ∷
+    row (not (eqb (numberAt 0 1 l) 1)) 2 0 ∷
+    row (not (eqb (5 + stated l) (length l)) || ltb (stated l) 18) 3 1 ∷
     sheetRows (isUneven (stated l) (headOf (sheetIn l))) (sheetIn l)
-
--- row 9: `room` is the length of the output
-abbrev pub roomRow : Sheet → ℕ → Row
-roomRow s room = row (ltb room (lengthFor (s .states) (s .commands))) 9 (lengthFor (s .states) (s .commands))
-
-unfoldable pub writingRows : Sheet → ℕ → List Row
-writingRows s room = sheetRows (not (eqb (length (s .sets)) (s .commands * s .states))) s ++ (roomRow s room ∷ [])

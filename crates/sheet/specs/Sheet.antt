@@ -7,7 +7,7 @@ use Prim.Native.Nat.{ℕ, zero, suc, _+_, _*_, _^_, _≤_, _<_}
 use lib.Dec.{ltb}
 use lib.ListN.{length, getD}
 use Rattle.meaning.specs.Domain.{Domain}
-use Rattle.sheet.specs.Bytes.{bytesOf, numberAt}
+use Rattle.numbers.specs.Bytes.{bytesOf, bytesOfEach, numberAt}
 
 -- `sets` are the following sets: all states of command 0, then of command 1, and so on
 pub record Sheet : Type 0 where
@@ -31,79 +31,31 @@ pub record Valid (s : Sheet) : Type 0 where
   pub goal-within : s .goal < 2 ^ s .states
   pub sets-within : (i : ℕ) → getD (s .sets) i 0 < 2 ^ s .states
 
--- ---- the layout, version 1
+-- ---- the layout, version 1: offsets and widths are those of the scope's table
 
-abbrev pub version : ℕ
-version = 1
-
--- the bytes of a set
+-- the bytes of a set, and where the following set at place i stands
 abbrev pub setWidth : ℕ
 setWidth = 8
-
--- where the parts stand: the version is at 0, and the stated length counts from `countedAt` on
-abbrev pub statedAt : ℕ
-statedAt = 1
-
-abbrev pub countedAt : ℕ
-countedAt = 5
-
-abbrev pub statesAt : ℕ
-statesAt = 5
-
-abbrev pub commandsAt : ℕ
-commandsAt = 6
-
-abbrev pub initialAt : ℕ
-initialAt = 7
-
-abbrev pub goalAt : ℕ
-goalAt = 15
 
 abbrev pub setsAt : ℕ
 setsAt = 23
 
--- where the following set at place i stands
 abbrev pub setOffset : ℕ → ℕ
 setOffset i = setsAt + setWidth * i
 
--- the least stated length, the stated length, and the length of the whole sheet
-abbrev pub shortest : ℕ
-shortest = 18
-
+-- the stated length, and the length of the whole sheet
 abbrev pub statedFor : ℕ → ℕ → ℕ
-statedFor states commands = shortest + setWidth * (commands * states)
+statedFor states commands = 18 + setWidth * (commands * states)
 
 abbrev pub lengthFor : ℕ → ℕ → ℕ
 lengthFor states commands = setsAt + setWidth * (commands * states)
 
--- a number in so many bytes
-pub record Field : Type 0 where
-  pub width : ℕ
-  pub content : ℕ
+-- the bytes before the following sets, and those of the whole sheet
+abbrev pub headBytes : ℕ → ℕ → ℕ → ℕ → List ℕ
+headBytes states commands initial goal = bytesOf 1 1 ++ bytesOf 4 (statedFor states commands) ++ bytesOf 1 states ++ bytesOf 1 commands ++ bytesOf setWidth initial ++ bytesOf setWidth goal
 
-abbrev pub field : ℕ → ℕ → Field
-field w n = record { width = w; content = n }
-
-abbrev pub headFields : ℕ → ℕ → ℕ → ℕ → List Field
-headFields states commands initial goal =
-    field 1 version ∷
-    field 4 (statedFor states commands) ∷
-    field 1 states ∷
-    field 1 commands ∷
-    field setWidth initial ∷
-    field setWidth goal ∷
-    []
-
-abbrev pub fields : Sheet → List Field
-fields s = headFields (s .states) (s .commands) (s .initial) (s .goal) ++ map (field setWidth) (s .sets)
-
-unfoldable pub laid : List Field → List ℕ
-laid [] = []
-laid (f ∷ fs) = bytesOf (f .width) (f .content) ++ laid fs
-
--- the bytes of a sheet
 abbrev pub encode : Sheet → List ℕ
-encode s = laid (fields s)
+encode s = headBytes (s .states) (s .commands) (s .initial) (s .goal) ++ bytesOfEach setWidth (s .sets)
 
 -- ---- the sheet that bytes hold, and its domain
 
@@ -116,17 +68,17 @@ abbrev pub setIn : List ℕ → ℕ → ℕ
 setIn l i = numberAt (setOffset i) setWidth l
 
 abbrev pub statesIn : List ℕ → ℕ
-statesIn l = numberAt statesAt 1 l
+statesIn l = numberAt 5 1 l
 
 abbrev pub commandsIn : List ℕ → ℕ
-commandsIn l = numberAt commandsAt 1 l
+commandsIn l = numberAt 6 1 l
 
 unfoldable pub sheetIn : List ℕ → Sheet
 sheetIn l = record {
   states = statesIn l;
   commands = commandsIn l;
-  initial = numberAt initialAt setWidth l;
-  goal = numberAt goalAt setWidth l;
+  initial = numberAt 7 setWidth l;
+  goal = numberAt 15 setWidth l;
   sets = map (setIn l) (from 0 (commandsIn l * statesIn l));
 }
 

@@ -1,7 +1,7 @@
 // Reads and writes sheets at the boundaries of the table of refusals, and prints a line for each: the label, and then the answer. A line of
 // writing ends with KEPT where every byte that must stay is as it was.
 use sheet::Reading;
-use sheet::Writing;
+use writer::Writing;
 
 // Sheet S of the bench examples, 55 bytes, and zeros after it.
 const S: [u8; 64] = [
@@ -174,7 +174,7 @@ fn write_first(
 ) {
     if count <= given.len() {
         if room <= out.len() {
-            let r = sheet::write(
+            let r = writer::write(
                 states,
                 commands,
                 initial,

@@ -1,6 +1,6 @@
 // The reading view of a sheet: a record that refers to the caller's bytes, with one thin function for each question.
 ghost use mathlib.Core.Path.{_≡_};
-ghost use Rattle.sheet.specs.Bytes.{IsPart};
+ghost use Rattle.numbers.specs.Bytes.{IsPart};
 ghost use Rattle.sheet.specs.Answers.{following, followingFrom};
 ghost use Rattle.view.specs.Views.{statesOf, commandsOf, viewed, viewedFrom};
 

@@ -8,8 +8,8 @@ use lib.Bits.{bitOr}
 use Rattle.meaning.specs.Walk as walk
 use Rattle.meaning.proofs.SetLaws.{member}
 use Rattle.meaning.proofs.StepLaws.{image-turn-in, image-turn-out}
-use Rattle.sheet.specs.Bytes.{number}
-use Rattle.sheet.specs.Answers.{shownAt}
+use Rattle.numbers.specs.Bytes.{number}
+use Rattle.sheet.specs.Shown.{shownAt}
 use Rattle.follow.proofs.image.Statement.{statement}
 use Rattle.follow.proofs.image.Tie as tie
 

@@ -3,7 +3,7 @@
 use mathlib.Core.Path.{ap, _∙_}
 use Prim.Native.Nat.{ℕ, _+_}
 use denote.Ref.{now}
-use Rattle.sheet.specs.Answers.{shownAt, shownFrom}
+use Rattle.sheet.specs.Shown.{shownAt, shownFrom}
 use Rattle.sheet.proofs.Follows.{shown-following, from-following}
 use borrow.Author.Needs.{needs}
 use Rattle.sheet.proofs.following.Statement.{statement}

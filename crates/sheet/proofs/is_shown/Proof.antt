@@ -3,7 +3,7 @@
 use native.Mathlib.Omega.{arith}
 use Prim.Native.Nat.{_*_, _≤_}
 use borrow.Author.Tests.{le-ltb, lt-ltb, lt-leb, le-leb}
-use Rattle.sheet.specs.Answers.{isShown}
+use Rattle.sheet.specs.Shown.{isShown}
 use Rattle.sheet.proofs.Rows.{product}
 use Rattle.sheet.proofs.is_shown.Statement.{statement}
 use Rattle.sheet.proofs.is_shown.Tie as tie

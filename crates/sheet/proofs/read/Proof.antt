@@ -9,10 +9,10 @@ use denote.Ref.{now}
 use lib.Dec.{eqb}
 use lib.ListN.{length}
 use borrow.Author.Tests.{le-ltb, lt-ltb, eq-eqb, ne-eqb}
-use Rattle.sheet.specs.Bytes.{numberAt}
+use Rattle.numbers.specs.Bytes.{numberAt}
 use Rattle.sheet.specs.Refusals.{stated, readingRows, verdict}
 use Rattle.sheet.specs.Answers.{reading}
-use Rattle.sheet.proofs.Numbers.{numberAt-one}
+use Rattle.numbers.proofs.Numbers.{numberAt-one}
 use Rattle.sheet.proofs.ReadLaws.{answerBy, reading-on}
 use borrow.Author.Needs.{needs}
 use Rattle.sheet.proofs.read.Statement.{statement}

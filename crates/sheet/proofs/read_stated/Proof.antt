@@ -12,7 +12,7 @@ use Rattle.sheet.specs.declared.Head.{Head}
 use Rattle.sheet.specs.declared.Check.{Check}
 use Rattle.sheet.specs.declared.Check.the-variants.{Passed, Failed}
 use Rattle.sheet.specs.declared.Reading.the-variants.{Accepted, Refused}
-use Rattle.sheet.proofs.Numbers.{numberAt-one}
+use Rattle.numbers.proofs.Numbers.{numberAt-one}
 use Rattle.sheet.proofs.Rows.{onCheck}
 use Rattle.sheet.proofs.ReadLaws.{headRowsBy, answerBy, answerBySets, by-head, by-sets, head-even}
 use borrow.Author.Needs.{needs}

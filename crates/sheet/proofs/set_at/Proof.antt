@@ -6,7 +6,7 @@ use Prim.Native.Nat.{ℕ}
 use denote.Ref.{now}
 use lib.ListN.{length, take}
 use lib.Seq.{take-length}
-use Rattle.sheet.specs.Bytes.{number}
+use Rattle.numbers.specs.Bytes.{number}
 use Rattle.sheet.proofs.Shown.{shown-length}
 use borrow.Author.Needs.{needs}
 use Rattle.sheet.proofs.set_at.Statement.{statement}

@@ -7,7 +7,7 @@ use denote.Ref.{now}
 use lib.ListN.{length, take, drop}
 use mathlib.Core.Bool.{true, false}
 use Rattle.sheet.specs.Sheet.{setOffset, setWidth}
-use Rattle.sheet.specs.Answers.{isShown}
+use Rattle.sheet.specs.Shown.{isShown}
 use Rattle.sheet.proofs.Shown.{Shown, shown, shown-part, shown-none, from-part, from-none}
 use borrow.Author.Needs.{needs}
 use Rattle.sheet.proofs.shown_at.Statement.{statement}

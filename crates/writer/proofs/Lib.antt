@@ -1,0 +1,5 @@
+pub mod Stores
+pub mod WriteLaws
+pub mod RefusedAs
+pub mod ReadWritten
+pub mod Unique

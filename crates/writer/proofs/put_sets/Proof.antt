@@ -1,0 +1,82 @@
+-- `writer::put_sets` meets its contract. The loop's invariant: the first i following sets stand in the output. The measure is how many are left.
+-- Assumes nothing.
+use mathlib.Core.Path.{_≡_, refl, ap, _∙_}
+use mathlib.Core.List.{List, map}
+use Prim.Native.Nat.{ℕ, _-_, _≤_}
+use native.Mathlib.Omega.{arith}
+use denote.Ref.{now}
+use lib.ListN.{length, take}
+use lib.Seq.{sets, length-sets, take-all}
+use borrow.Author.Needs.{needs}
+use Rattle.sheet.specs.Sheet.{setsAt, setWidth}
+use Rattle.sheet.proofs.Fields.{field, laid, laid-sets}
+use Rattle.writer.proofs.Stores.{set-stored}
+use Rattle.writer.proofs.put_sets.Statement.{statement}
+use Rattle.writer.proofs.put_sets.Tie as tie
+
+abbrev Inv-loop : tie.InvT-loop
+Inv-loop out₀ given i₀ out i = (i ≤ length given) × (out ≡ sets out₀ setsAt (laid (map (field setWidth) (take i given))))
+
+abbrev μ-loop : tie.MeasureT-loop
+μ-loop out₀ given i₀ out i = length given - i
+
+-- the output keeps its length
+kept : (c : tie.At-loop Inv-loop μ-loop) → length (c .loop .out) ≡ length (now (c .before .before .before .args .out))
+kept c = ap length (c .loop .inv .1) ∙ length-sets (now (c .before .before .before .args .out)) setsAt (laid (map (field setWidth) (take (c .loop .i) (now (c .before .before .before .args .given)))))
+
+loop-holds : tie.Need-loop-holds Inv-loop μ-loop
+unfolding laid
+loop-holds c = (omega arith, refl)
+
+mul-put-eight : tie.Need-mul-put-eight Inv-loop μ-loop
+mul-put-eight c = omega arith
+
+add-put-eight : tie.Need-add-put-eight Inv-loop μ-loop
+add-put-eight c = omega arith
+
+mul-put-eight-2 : tie.Need-mul-put-eight-2 Inv-loop μ-loop
+mul-put-eight-2 c = search needs
+
+shared-slice-read-put-eight : tie.Need-shared-slice-read-put-eight Inv-loop μ-loop
+shared-slice-read-put-eight c = search needs
+
+put-eight-requires : tie.Need-put-eight-requires Inv-loop μ-loop
+put-eight-requires c κs = omega (arith, kept (c .before .before .before))
+
+add-i : tie.Need-add-i Inv-loop μ-loop
+add-i c = omega arith
+
+loop-less : tie.Need-loop-less Inv-loop μ-loop
+loop-less c = omega arith
+
+loop-again : tie.Need-loop-again Inv-loop μ-loop
+loop-again c =
+    let t = c .before .before .before .before .before in
+    let a = t .before .before .before .before .args in
+    (omega arith, c .before .before .put-eight .ensures ∙ set-stored (now (a .out)) setsAt (now (a .given)) (t .before .loop .i) (t .loop-test .taken) (t .before .loop .inv .1))
+
+same-length : tie.Need-same-length Inv-loop μ-loop
+same-length c = kept (c .before)
+
+returns : tie.Need-returns Inv-loop μ-loop
+returns c =
+    let a = c .before .before .before .before .args in
+    c .before .loop .inv .1 ∙ ap (λ (xs : List ℕ). sets (now (a .out)) setsAt (laid (map (field setWidth) xs))) (take-all (c .before .loop .i) (now (a .given)) (c .loop-test .left)) ∙ ap (λ (b : List ℕ). sets (now (a .out)) setsAt b) (laid-sets (now (a .given)))
+
+pub put-sets-spec : {M : Type 1} → statement M
+put-sets-spec =
+    tie.close
+    (tie.spec
+    Inv-loop
+    μ-loop
+    loop-holds
+    mul-put-eight
+    add-put-eight
+    mul-put-eight-2
+    shared-slice-read-put-eight
+    put-eight-requires
+    add-i
+    loop-less
+    loop-again
+    same-length
+    returns)
