@@ -25,9 +25,6 @@ module _ (D : Domain) (ok : WellFormed D) where
   pub leads-lt : {s a t : ℕ} → s < D .states → Leads D s a t → t < D .states
   leads-lt {s} {a} b l = ∈-lt (D .states) (ok .rows a s b) l
 
-  pub takes-some : {s a : ℕ} → Takes D s a → D .follow a s ≢ 0
-  takes-some h = member-some (h .1)
-
   -- what a walk that ends says of the runs
   pub record Agrees (x : ℕ) (p : List ℕ) (y : ℕ) : Type 0 where
     pub within : Within D y

@@ -163,7 +163,3 @@ module _ (D : Domain) (ok : WellFormed D) (init : ℕ) (st : Start D init) where
   -- any start of the listing is the first places of the computed list
   pub prefix-is : {l : List Entry} → Prefix (step D) init l → l ≡ take (length l) (listing D init)
   prefix-is {l} s = prefix-of (step D) init s (listing-correct .prefix) (le-of-suc-le-suc (lt-of-not-le (λ h. complete-longest (step D) init (listing-correct .prefix) (listing-correct .complete) s h)))
-
-  -- what the loop of a search has listed so far
-  pub reached-is : {l : List Entry} {i a : ℕ} → Reached (step D) init l i a → l ≡ take (length l) (listing D init)
-  reached-is s = prefix-is (reached-prefix (step D) init s)

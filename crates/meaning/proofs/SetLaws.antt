@@ -33,13 +33,6 @@ member e = record { is-one = e }
 pub ∈-cases : (s x : ℕ) → (bit s x ≡ 0) ⊎ (s ∈ x)
 ∈-cases s x = ⊎-elim (λ e. inl e) (λ e. inr (member e)) (bit-cases s x)
 
-pub ∈-dec : (s x : ℕ) → Dec (s ∈ x)
-∈-dec s x = go (∈-cases s x)
-  where
-    go : (bit s x ≡ 0) ⊎ (s ∈ x) → Dec (s ∈ x)
-    go (inl e) = no (λ h. omega (arith, e, h .is-one))
-    go (inr h) = yes h
-
 pub bit-zero : (x : ℕ) → bit 0 x ≡ x % 2
 bit-zero x = ap (λ (y : ℕ). y % 2) (div-one x)
 

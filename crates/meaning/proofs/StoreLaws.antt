@@ -78,14 +78,6 @@ place-of-at p (x ∷ l) {k} {e} u q = go k u (λ j v. place-of-at p l v q) (test
 
 -- ---- records
 
--- what a place holds stays when the list grows
-pub holds-append : {l : List Entry} {k : ℕ} {n : Node} (r : List Entry) → Holds l k n → Holds (l ++ r) k n
-holds-append {l} {k} {n} r h = record { entry = h .entry; at-place = at-append r (h .at-place); its-set = h .its-set; link = go (h .link) }
-  where
-    go : Link l k (h .entry) n → Link (l ++ r) k (h .entry) n
-    go (initial u v w) = initial u v w
-    go (later u v) = later (at-append r u) v
-
 module _ (next : ℕ → ℕ → Option ℕ) (init : ℕ) {l : List Entry} (s : Prefix next init l) where
   not-initial : {e : Entry} (p : List ℕ) (a : ℕ) → At l zero e → ¬ (e .seq ≡ then p a)
   not-initial p a u q = then-not-nil p a (sym q ∙ ap (λ (x : Entry). x .seq) (place-zero next init s u))

@@ -1,6 +1,5 @@
 -- From numbers to bytes and back: a number's bytes stand for it, and bytes are the bytes of the number that they stand for.
 -- The idea: bytes of one length that stand for one number are equal.
--- Assumes nothing.
 use mathlib.Core.Path.{_≡_, refl, sym, ap, ap₂, _∙_, subst}
 use mathlib.Core.List.{List, [], _∷_}
 use Prim.Native.Nat.{ℕ, zero, suc, _+_, _*_, _/_, _%_, _^_, _≤_, _<_}

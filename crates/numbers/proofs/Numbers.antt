@@ -1,6 +1,5 @@
 -- Laws of big-endian numbers, over the width: a number of j + k bytes is put together of one of j bytes and one of k.
 -- The idea: `number` of two lists one after the other; all else is that at a width.
--- Assumes nothing.
 use mathlib.Core.Path.{_≡_, sym, ap, ap₂, _∙_}
 use mathlib.Core.List.{List, [], _∷_, _++_}
 use Prim.Native.Nat.{ℕ, _+_, _*_, _^_, _≤_, _<_}

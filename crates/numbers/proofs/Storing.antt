@@ -1,6 +1,5 @@
 -- A number's bytes, over the width, and their storing as two runs.
 -- The idea: two runs of stores, the second where the first ends, are one run.
--- Assumes nothing.
 use mathlib.Core.Path.{_≡_, refl, sym, ap, ap₂, _∙_}
 use mathlib.Core.List.{List, [], _∷_, _++_}
 use Prim.Native.Nat.{ℕ, zero, suc, _+_, _/_, _%_, _^_}

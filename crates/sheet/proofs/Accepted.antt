@@ -1,6 +1,5 @@
 -- The reader accepts exactly the bytes that some valid sheet has, and its head is that sheet's.
 -- The idea: the sheet is the one that the bytes hold.
--- Assumes nothing.
 use mathlib.Core.Path.{_≡_, sym, ap, _∙_}
 use mathlib.Core.Logic.{_↔_}
 use mathlib.Core.List.{List}

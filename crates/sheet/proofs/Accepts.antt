@@ -1,6 +1,5 @@
 -- What it is for bytes to be accepted: the version and the stated length are right, and the sheet that the bytes hold is valid.
 -- The idea: no row holds exactly there, since each row's condition is the opposite of a part of that.
--- Assumes nothing.
 use mathlib.Core.Path.{_≡_, refl, sym, ap, _∙_}
 use mathlib.Core.Bool.{not}
 use mathlib.Core.List.{List}

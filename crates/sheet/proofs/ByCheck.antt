@@ -1,6 +1,5 @@
 -- Reading by a check of all its rows: what is answered goes by whether the check passes.
 -- The idea: answer and refusal are ends of one `verdict` over the same rows.
--- Assumes nothing.
 use mathlib.Core.Path.{_≡_}
 use mathlib.Core.List.{List}
 use Prim.Native.Nat.{ℕ}

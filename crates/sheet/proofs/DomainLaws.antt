@@ -1,19 +1,21 @@
--- An accepted sheet's domain is well formed, its initial set is one to start from, and its goal names no missing state.
+-- An accepted sheet's domain is well formed, its initial set is one to start from, and its goal names no missing state; and how long a sheet can be.
 -- The idea: these are parts of what makes a sheet valid.
--- Assumes nothing.
-use mathlib.Core.Path.{_≡_, sym, ap, subst}
+use mathlib.Core.Path.{_≡_, sym, ap, ap₂, _∙_, subst}
 use mathlib.Core.Bool.{Bool, true, false, cond, _&&_}
 use mathlib.Core.List.{List}
 use Prim.Native.Nat.{ℕ, _+_, _*_, _^_, _≤_, _<_}
+use native.Mathlib.Omega.{arith}
 use lib.Dec.{ltb}
 use lib.Pow.{pow-pos}
 use lib.ListN.{length, getD}
 use borrow.Author.Tests.{le-ltb}
 use Rattle.meaning.specs.Domain.{Within, WellFormed, Start}
-use Rattle.sheet.specs.Sheet.{Sheet, Valid, sheetIn, domain, domainIn, lengthFor}
+use Rattle.sheet.specs.Sheet.{Sheet, Valid, encode, sheetIn, domain, domainIn, lengthFor}
 use Rattle.sheet.specs.Answers.{reading}
 use Rattle.sheet.specs.declared.Head.{Head}
 use Rattle.sheet.specs.declared.Reading.the-variants.{Accepted}
+use Rattle.sheet.proofs.Rows.{product}
+use Rattle.sheet.proofs.Fields.{length-encode}
 use Rattle.sheet.proofs.Accepts.{reading-accepts}
 
 pub valid-well-formed : (s : Sheet) → Valid s → WellFormed (domain s)
@@ -28,14 +30,10 @@ module _ (l : List ℕ) (h : Head) (e : reading l ≡ Accepted h) where
   pub domain-well-formed : WellFormed (domainIn l)
   domain-well-formed = valid-well-formed (sheetIn l) (reading-accepts l h e .accepts .is-valid)
 
-  -- the head's counts are the domain's
+  -- the head's count of states is the domain's
   pub domain-states : domainIn l .states ≡ h .states
   unfolding domain
   domain-states = sym (ap (λ (g : Head). g .states) (reading-accepts l h e .head))
-
-  pub domain-commands : domainIn l .commands ≡ h .commands
-  unfolding domain
-  domain-commands = sym (ap (λ (g : Head). g .commands) (reading-accepts l h e .head))
 
   pub initial-start : Start (domainIn l) (h .initial)
   unfolding domain
@@ -63,3 +61,15 @@ head-fits l h e =
     let t = reading-accepts l h e in
     let v = t .accepts .is-valid in
     subst (λ (g : Head). HeadFits l g) (sym (t .head)) (record { some-state = v .some-state; states-fit = v .states-fit; some-command = v .some-command; commands-fit = v .commands-fit; long = t .accepts .long })
+
+-- ---- the largest sheet
+
+-- no sheet that is accepted has more than 16,407 bytes
+pub at-most-16407 : (l : List ℕ) (h : Head) → reading l ≡ Accepted h → length l ≤ 16407
+at-most-16407 l h e =
+    let f = head-fits l h e in
+    omega (arith, f .long, product (f .commands-fit) (f .states-fit))
+
+-- and one of 64 states and 32 commands has as many
+pub largest-16407 : (s : Sheet) → Valid s → s .states ≡ 64 → s .commands ≡ 32 → length (encode s) ≡ 16407
+largest-16407 s v e f = length-encode s (v .complete) ∙ ap₂ (λ (m n : ℕ). lengthFor m n) e f

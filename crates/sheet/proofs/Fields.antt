@@ -1,7 +1,6 @@
 -- The layout as a list of fields, each a width and a content: a sheet's bytes are its fields laid out one after the other, each field is read back from where it
 -- stands, and bytes are laid out again from the numbers in them.
 -- The idea: a field stands after the widths of those before it.
--- Assumes nothing.
 use mathlib.Core.Path.{_≡_, refl, sym, ap, ap₂, _∙_}
 use mathlib.Core.List.{List, [], _∷_, _++_, map, append-assoc, append-nil}
 use Prim.Native.Nat.{ℕ, _+_, _*_, _^_, _≤_, _<_}

@@ -1,6 +1,5 @@
 -- In an accepted sheet a following set is shown exactly where its command and its state are there, and as a number it is the domain's.
 -- The idea: the sheet's length leaves room for exactly the commands that it has.
--- Assumes nothing.
 use mathlib.Core.Path.{_≡_, refl, sym, ap, _∙_, subst}
 use mathlib.Core.Bool.{Bool, true, false, cond, _&&_}
 use mathlib.Core.List.{List, []}
@@ -13,7 +12,7 @@ use lib.ListN.{length, getD}
 use borrow.Author.Tests.{lt-ltb, le-ltb, le-leb, lt-leb, ltb-true, ltb-false}
 use Rattle.numbers.specs.Bytes.{number, part}
 use Rattle.sheet.specs.Sheet.{sheetIn, domain, domainIn, setOffset, setIn, setWidth, lengthFor, statesIn, commandsIn}
-use Rattle.sheet.specs.Answers.{shownHead, reading, followingBy, following, followingFrom}
+use Rattle.sheet.specs.Answers.{shownHead, reading, following, followingFrom}
 use Rattle.sheet.specs.Shown.{isShown, shownAt, shownFrom}
 use Rattle.sheet.specs.declared.Head.{Head}
 use Rattle.sheet.specs.declared.Reading.{Reading}
@@ -68,12 +67,6 @@ module _ (l : List ℕ) (t : Accepts l) (a s : ℕ) where
       go false e c f = simp e
 
 module _ (l : List ℕ) (h : Head) (e : reading l ≡ Accepted h) (a s : ℕ) where
-  -- what is shown by the head's count of states goes by the head's two counts
-  pub shown-head : shownAt l (h .states) a s ≡ followingBy l h a s
-  shown-head =
-      let t = reading-accepts l h e in
-      ap (λ (g : Head). shownAt l (g .states) a s) (t .head) ∙ shown-by l (t .accepts) a s ∙ ap (λ (g : Head). followingBy l g a s) (sym (t .head))
-
   -- as a number it is the domain's following set, for any command and any state
   pub set-is-follow : number (shownAt l (h .states) a s) ≡ domainIn l .follow a s
   set-is-follow =

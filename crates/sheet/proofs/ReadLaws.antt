@@ -1,6 +1,5 @@
 -- Reading, step by step: what the checks of rows 1 to 3, of the head and of the following sets each say of the answer.
 -- The idea: the rows in the table's order, of which each check passes some.
--- Assumes nothing.
 use mathlib.Core.Path.{_≡_, sym, ap, _∙_}
 use mathlib.Core.List.{List, map}
 use Prim.Native.Nat.{ℕ, _+_, _*_, _≤_}

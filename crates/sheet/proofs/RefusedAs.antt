@@ -1,6 +1,5 @@
 -- A number is given, with its place, exactly where its row's condition holds and no earlier row's does. Reading gives only 1 to 8.
 -- The idea: by the rows, one at a time.
--- Assumes nothing.
 use mathlib.Core.Path.{_≡_, refl, sym, ap, _∙_, subst}
 use mathlib.Core.Logic.{_↔_}
 use mathlib.Core.Bool.{Bool, true, false, cond}

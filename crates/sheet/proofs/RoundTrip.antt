@@ -1,6 +1,5 @@
 -- A valid sheet is held by its own bytes, and accepted bytes are the bytes of the sheet that they hold.
 -- The idea: each field stands after the widths of those before it, so it is read at the offset that the layout names.
--- Assumes nothing.
 use mathlib.Core.Path.{_≡_, refl, sym, ap, ap₂, _∙_, subst}
 use mathlib.Core.List.{List, [], _∷_, _++_, map}
 use Prim.Native.Nat.{ℕ, zero, suc, _+_, _*_, _^_, _<_}

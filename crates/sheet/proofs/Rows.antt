@@ -1,7 +1,6 @@
 -- The first row whose condition holds decides. Laws of a table of refusals, over any rows and any answers; then of row 8, which has one row for each following set,
 -- and of what the code tests.
 -- The idea: one row at a time, by its condition.
--- Assumes nothing.
 use mathlib.Core.Path.{_≡_, refl, sym, ap, ap₂, _∙_}
 use mathlib.Core.Bool.{Bool, true, false, cond, not, _||_}
 use mathlib.Core.List.{List, [], _∷_, _++_, map}

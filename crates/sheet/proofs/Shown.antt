@@ -1,6 +1,5 @@
 -- What is known of a following set that is shown: the counts fit, and its bytes are within the sheet.
 -- The idea: the four tests, taken apart.
--- Assumes nothing.
 use mathlib.Core.Path.{_≡_, refl, ap, _∙_}
 use mathlib.Core.Bool.{Bool, true, false, cond, _&&_}
 use mathlib.Core.List.{List, []}

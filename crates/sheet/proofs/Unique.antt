@@ -1,6 +1,5 @@
 -- Two answers that a contract permits are equal.
 -- The idea: each contract is an equation with a definition, for a part one for its content and one for its place.
--- Assumes nothing.
 use mathlib.Core.Path.{_≡_, sym, _∙_}
 use mathlib.Core.List.{List}
 use Prim.Native.Nat.{ℕ}

@@ -1,6 +1,5 @@
 -- A sheet is valid exactly where rows 4 to 8 pass and it has a following set for each command and state.
 -- The idea: each part of `Valid` is the condition of a row, turned round.
--- Assumes nothing.
 use mathlib.Core.Path.{_≡_, refl, _∙_}
 use mathlib.Core.Bool.{Bool, false}
 use mathlib.Core.List.{List, [], _∷_}

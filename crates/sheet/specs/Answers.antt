@@ -18,16 +18,10 @@ abbrev pub shownHead : Reading → Head
 shownHead (Accepted h) = h
 shownHead (Refused r) = headWith 0 0 0 0
 
--- the bytes of the following set of command a and state s, by a head's counts: none where either is missing
-abbrev pub followingBy : List ℕ → Head → ℕ → ℕ → List ℕ
-followingBy l h a s = cond (ltb a (h .commands) && ltb s (h .states)) (part (setOffset (a * h .states + s)) setWidth l) []
-
+-- the bytes of the following set of command a and state s: none where either is missing
 abbrev pub following : List ℕ → ℕ → ℕ → List ℕ
-following l a s = followingBy l (shownHead (reading l)) a s
+following l a s = let h = shownHead (reading l) in cond (ltb a (h .commands) && ltb s (h .states)) (part (setOffset (a * h .states + s)) setWidth l) []
 
 -- where they begin: at the start of the sheet where there are none
-abbrev pub fromBy : Head → ℕ → ℕ → ℕ
-fromBy h a s = cond (ltb a (h .commands) && ltb s (h .states)) (setOffset (a * h .states + s)) 0
-
 abbrev pub followingFrom : List ℕ → ℕ → ℕ → ℕ
-followingFrom l a s = fromBy (shownHead (reading l)) a s
+followingFrom l a s = let h = shownHead (reading l) in cond (ltb a (h .commands) && ltb s (h .states)) (setOffset (a * h .states + s)) 0

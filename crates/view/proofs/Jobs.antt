@@ -1,5 +1,4 @@
 -- The contracts of the walked functions.
--- Assumes nothing.
 use mathlib.Core.Path.{_≡_}
 use mathlib.Core.List.{[], _∷_}
 use package.mir.Syntax.{tyInt, w64, erased, imm}

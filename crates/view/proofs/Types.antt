@@ -1,5 +1,4 @@
 -- `View` and `Counts` as a walk takes them: the fields that are read, the view's slice, and what a view is made of.
--- Assumes nothing.
 use mathlib.Core.Path.{_≡_, refl}
 use mathlib.Core.List.{List, [], _∷_}
 use Prim.Native.Nat.{ℕ, _<_, _^_}

@@ -1,6 +1,5 @@
 -- By the counts that a sheet has, a view shows what the sheet itself says.
 -- The idea: where the command is there, the sheet's own law says it; where it is missing, both show nothing.
--- Assumes nothing.
 use mathlib.Core.Path.{_≡_, refl, sym, ap, _∙_, subst₂, subst₃}
 use mathlib.Core.Bool.{Bool, true, false, cond}
 use mathlib.Core.List.{List, []}

@@ -1,6 +1,5 @@
 -- Both round trips: what is written reads back equal, and an accepted sheet rewrites to the same bytes.
 -- The idea: writing puts out the bytes of a valid sheet, and the bytes of a valid sheet hold it.
--- Assumes nothing.
 use mathlib.Core.Path.{_≡_, refl, sym, ap, ap₂, _∙_}
 use mathlib.Core.Bool.{Bool, not}
 use mathlib.Core.List.{List, [], _∷_, _++_}

@@ -1,6 +1,5 @@
 -- In writing a number is given, with its place, exactly where its row's condition holds and no earlier row's does; and only 4 to 9.
 -- The idea: by the rows, as in reading.
--- Assumes nothing.
 use mathlib.Core.Path.{_≡_, sym, ap, _∙_}
 use mathlib.Core.Logic.{_↔_}
 use mathlib.Core.Bool.{not}

@@ -1,6 +1,5 @@
 -- A sheet's fields stored one after another in the output of writing.
 -- The idea: two runs of stores, the second where the first ends, are one run.
--- Assumes nothing.
 use mathlib.Core.Path.{_≡_, refl, sym, ap, ap₂, _∙_}
 use mathlib.Core.List.{List, [], _∷_, _++_, map, append-nil}
 use Prim.Native.Nat.{ℕ, _+_, _*_, _<_}

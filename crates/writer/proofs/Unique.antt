@@ -1,6 +1,5 @@
 -- Two answers that the contract of writing permits are equal, and so are two contents of the output.
 -- The idea: the contract is an equation for each.
--- Assumes nothing.
 use mathlib.Core.Path.{_≡_}
 use mathlib.Core.List.{List}
 use Prim.Native.Nat.{ℕ}

@@ -1,6 +1,5 @@
 -- Writing, step by step: what the checks of the head and of the following sets say of the answer and of the output, and the output with a sheet stored in it.
 -- The idea: answer and output go by the same rows, so one law over what is answered serves both.
--- Assumes nothing.
 use mathlib.Core.Path.{_≡_, refl, sym, ap, ap₂, _∙_}
 use mathlib.Core.Bool.{Bool, true, false, not}
 use mathlib.Core.List.{List, [], _∷_, _++_, map, append-assoc}

@@ -1,5 +1,4 @@
 -- `numbers::eight` meets its contract: a number of eight bytes is put together of two of four bytes.
--- Assumes nothing.
 use native.Mathlib.Omega.{arith}
 use denote.Ref.{now}
 use Rattle.numbers.proofs.Numbers.{numberAt-add}

@@ -1,5 +1,4 @@
 -- `numbers::put_one` meets its contract: one byte is stored.
--- Assumes nothing.
 use mathlib.Core.Path.{sym, ap}
 use mathlib.Core.List.{List}
 use Prim.Native.Nat.{ℕ}

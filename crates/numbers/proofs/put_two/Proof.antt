@@ -1,5 +1,4 @@
 -- `numbers::put_two` meets its contract: two runs of one byte are one.
--- Assumes nothing.
 use mathlib.Core.Path.{ap, _∙_}
 use mathlib.Core.List.{List}
 use Prim.Native.Nat.{ℕ, _+_}

@@ -1,5 +1,4 @@
 -- `numbers::with_four` meets its contract: a number of four bytes is put together of two of two bytes.
--- Assumes nothing.
 use native.Mathlib.Omega.{arith}
 use denote.Ref.{now}
 use Rattle.numbers.proofs.Numbers.{numberAt-add}

@@ -1,5 +1,4 @@
 -- `numbers::with_two` meets its contract: a number of two bytes is put together of two of one byte.
--- Assumes nothing.
 use Prim.Native.Nat.{ℕ, _+_}
 use mathlib.Core.List.{List}
 use native.Mathlib.Omega.{arith}

@@ -1,5 +1,4 @@
 -- `sheet::check_given` meets its contract. The loop's invariant: the answer is the answer by the following sets from place i on. The measure is how many are left.
--- Assumes nothing.
 use mathlib.Core.Path.{_≡_, refl, sym, _∙_}
 use Prim.Native.Nat.{_-_, _≤_}
 use native.Mathlib.Omega.{arith}

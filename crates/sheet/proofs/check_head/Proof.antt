@@ -1,5 +1,4 @@
 -- `sheet::check_head` meets its contract: each answer goes by the tests that led there, which are the conditions of the rows. The length in question fits, since the counts do.
--- Assumes nothing.
 use mathlib.Core.Path.{_≡_, sym, _∙_}
 use mathlib.Core.Bool.{false, _||_}
 use Prim.Native.Nat.{_*_, _≤_}

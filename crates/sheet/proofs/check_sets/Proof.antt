@@ -1,5 +1,4 @@
 -- `sheet::check_sets` meets its contract. The loop's invariant: the answer is the answer by the following sets from place i on. The measure is how many are left.
--- Assumes nothing.
 use mathlib.Core.Path.{_≡_, refl, sym, ap, _∙_}
 use mathlib.Core.List.{List, map}
 use Prim.Native.Nat.{ℕ, _-_, _≤_, _<_}

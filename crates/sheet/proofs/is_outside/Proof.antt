@@ -1,5 +1,4 @@
 -- `sheet::is_outside` meets its contract: each answer goes by the test that led there.
--- Assumes nothing.
 use borrow.Author.Tests.{lt-ltb, le-ltb}
 use Rattle.sheet.proofs.is_outside.Statement.{statement}
 use Rattle.sheet.proofs.is_outside.Tie as tie

@@ -1,5 +1,4 @@
 -- `sheet::is_shown` meets its contract: each answer goes by the tests that led there, and the place fits, since the counts do.
--- Assumes nothing.
 use native.Mathlib.Omega.{arith}
 use Prim.Native.Nat.{_*_, _≤_}
 use borrow.Author.Tests.{le-ltb, lt-ltb, lt-leb, le-leb}

@@ -1,5 +1,4 @@
 -- `sheet::names_missing` meets its contract: by what the test on the set tells.
--- Assumes nothing.
 use borrow.Author.Needs.{needs}
 use Rattle.sheet.proofs.Rows.{not-within}
 use Rattle.sheet.proofs.names_missing.Statement.{statement}

@@ -1,5 +1,4 @@
 -- `sheet::no_start` meets its contract: each answer goes by the test that led there.
--- Assumes nothing.
 use borrow.Author.Tests.{eq-eqb, ne-eqb}
 use borrow.Author.Needs.{needs}
 use Rattle.sheet.proofs.no_start.Statement.{statement}

@@ -1,5 +1,4 @@
 -- `sheet::read` meets its contract: each answer goes by the tests that led there, which are the conditions of rows 1 to 3.
--- Assumes nothing.
 use mathlib.Core.Path.{_≡_, sym, ap, _∙_}
 use mathlib.Core.Bool.{true}
 use mathlib.Core.List.{List}

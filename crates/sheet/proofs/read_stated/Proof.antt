@@ -1,5 +1,4 @@
 -- `sheet::read_stated` meets its contract: the answer goes by the check of the head and then by the check of the following sets.
--- Assumes nothing.
 use mathlib.Core.Path.{_≡_, sym, ap, _∙_}
 use mathlib.Core.List.{List}
 use Prim.Native.Nat.{ℕ, _*_, _≤_}

@@ -1,5 +1,4 @@
 -- `sheet::set_at` meets its contract: a part of 8 bytes is the number that it stands for, and a missing set has no bytes.
--- Assumes nothing.
 use mathlib.Core.Path.{sym, ap, _∙_}
 use mathlib.Core.List.{List}
 use Prim.Native.Nat.{ℕ}

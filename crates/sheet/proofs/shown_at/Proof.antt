@@ -1,5 +1,4 @@
 -- `sheet::shown_at` meets its contract: where the set is shown its bytes are within the sheet.
--- Assumes nothing.
 use mathlib.Core.Path.{_≡_, sym, ap, _∙_}
 use Prim.Native.Nat.{ℕ, _+_, _-_, _*_}
 use native.Mathlib.Omega.{arith}

@@ -1,5 +1,4 @@
 -- `sheet::shown_from` meets its contract: where the set is shown its offset is small.
--- Assumes nothing.
 use mathlib.Core.Path.{sym, _∙_}
 use native.Mathlib.Omega.{arith}
 use denote.Ref.{now}

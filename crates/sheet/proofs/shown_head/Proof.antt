@@ -1,5 +1,4 @@
 -- `sheet::shown_head` meets its contract: by the answer of `read`.
--- Assumes nothing.
 use mathlib.Core.Path.{ap, _∙_}
 use Rattle.sheet.specs.Answers.{shownHead}
 use borrow.Author.Needs.{needs}

@@ -1,5 +1,4 @@
 -- `sheet::states` meets its contract: it is a part of the head.
--- Assumes nothing.
 use mathlib.Core.Path.{ap}
 use Rattle.sheet.specs.declared.Head.{Head}
 use borrow.Author.Needs.{needs}

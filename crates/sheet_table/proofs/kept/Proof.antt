@@ -1,5 +1,4 @@
 -- `sheet_table::kept` is safe and ends: the measure is what is left of the output.
--- Assumes nothing.
 use Prim.Native.Nat.{_<_, _-_, _^_}
 use native.Mathlib.Omega.{arith}
 use lib.ListN.{length}

@@ -1,5 +1,4 @@
 -- `view::commands` meets its contract: a field of the view is read.
--- Assumes nothing.
 use mathlib.Core.Path.{refl}
 use mathlib.Core.List.{[], _∷_}
 use package.mir.Syntax.{w64, field}

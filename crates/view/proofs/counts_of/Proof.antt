@@ -1,5 +1,4 @@
 -- `view::counts_of` meets its contract: both counts are parts of the head.
--- Assumes nothing.
 use mathlib.Core.Path.{ap}
 use Rattle.sheet.specs.declared.Head.{Head}
 use borrow.Author.Needs.{needs}

@@ -1,5 +1,4 @@
 -- `view::following` meets its contract: the view is taken apart, and the function on bytes and numbers is called.
--- Assumes nothing.
 use mathlib.Core.Path.{refl}
 use mathlib.Core.List.{List, [], _∷_}
 use Prim.Native.Nat.{ℕ}

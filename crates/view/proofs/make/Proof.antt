@@ -1,5 +1,4 @@
 -- `view::make` meets its contract: the view is made of the slice that was passed and of its counts.
--- Assumes nothing.
 use mathlib.Core.Path.{refl}
 use mathlib.Core.List.{List, [], _∷_}
 use Prim.Native.Nat.{ℕ}

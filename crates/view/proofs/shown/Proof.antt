@@ -1,5 +1,4 @@
 -- `view::shown` meets its contract: the view that `make` returns is held in a local and passed to `following`. Its signature has no view, so its callers are covered.
--- Assumes nothing.
 use mathlib.Core.Path.{refl}
 use mathlib.Core.List.{[], _∷_}
 use package.mir.Syntax.{w64, named, erased}

@@ -1,5 +1,4 @@
 -- `view::viewed_at` meets its contract: by the test of the command, and then by what the sheet shows.
--- Assumes nothing.
 use borrow.Author.Tests.{lt-ltb, le-ltb}
 use borrow.Author.Needs.{needs}
 use Rattle.view.proofs.viewed_at.Statement.{statement}

@@ -1,5 +1,4 @@
 -- `writer::put_head` meets its contract: after each store the fields so far stand at the start of the output.
--- Assumes nothing.
 use mathlib.Core.Path.{_≡_, ap, sym, _∙_}
 use mathlib.Core.List.{List}
 use Prim.Native.Nat.{ℕ}

@@ -1,5 +1,4 @@
 -- `writer::put_sets` meets its contract. The loop's invariant: the first i following sets stand in the output. The measure is how many are left.
--- Assumes nothing.
 use mathlib.Core.Path.{_≡_, refl, ap, _∙_}
 use mathlib.Core.List.{List, map}
 use Prim.Native.Nat.{ℕ, _-_, _≤_}

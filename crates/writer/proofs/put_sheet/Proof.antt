@@ -1,5 +1,4 @@
 -- `writer::put_sheet` meets its contract: with room the head and the following sets are stored one after the other, and without room nothing is.
--- Assumes nothing.
 use mathlib.Core.Path.{_≡_, ap, _∙_}
 use mathlib.Core.List.{List}
 use Prim.Native.Nat.{ℕ}

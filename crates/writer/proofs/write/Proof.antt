@@ -1,5 +1,4 @@
 -- `writer::write` meets its contract: answer and output go by the check of the head, then by the check of the following sets, then by the storing.
--- Assumes nothing.
 use mathlib.Core.Path.{_≡_, sym, _∙_}
 use mathlib.Core.List.{List, _++_}
 use Prim.Native.Nat.{ℕ, _+_, _*_}
