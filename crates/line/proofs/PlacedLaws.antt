@@ -13,11 +13,12 @@ use lib.ListN.{length, take, drop, length-append}
 use lib.Seq.{sets, sets-eq, length-sets}
 use borrow.Author.Tests.{le-leb, lt-leb, leb-true}
 use Rattle.line.specs.Lines.{lineOf, answerOf}
-use Rattle.line.specs.Placing.{capped, answered, placed, Placed}
+use Rattle.decimal.specs.Fields.{capped}
+use Rattle.line.specs.Placing.{answered, placed, Placed}
 use Rattle.line.specs.declared.Line.{Line}
 use Rattle.line.specs.declared.Printed.{Printed}
 use Rattle.line.specs.declared.Printed.the-variants.{End, Short}
-use Rattle.line.proofs.Stores.{sets-on}
+use Rattle.decimal.proofs.Stores.{sets-on}
 
 -- the bytes fit: the end is answered, and they are stored
 pub stored-whole : (bytes : List ℕ) (at : ℕ) (before : List ℕ) {after : List ℕ} → at + length bytes ≤ length before → after ≡ sets before at bytes → Placed bytes at before after (End (at + length bytes))

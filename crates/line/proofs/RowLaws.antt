@@ -3,16 +3,14 @@
 -- Assumes nothing.
 use mathlib.Core.Path.{_≡_, sym, ap, _∙_}
 use mathlib.Core.List.{List, [], _∷_, _++_, append-assoc}
-use Prim.Native.Nat.{ℕ, suc, _+_, _*_, _^_, _≤_, _<_}
-use native.Mathlib.Nat.{mul-suc}
+use Prim.Native.Nat.{ℕ, _+_, _*_, _^_, _≤_, _<_}
 use native.Mathlib.Omega.{arith}
 use lib.ListN.{length, getD, length-append}
 use lib.Seq.{sets}
-use Rattle.line.specs.Decimal.{decimal}
-use Rattle.line.specs.Lines.{lineFeed, spaced, row}
-use Rattle.line.proofs.DecimalLaws.{length-below}
-use Rattle.line.proofs.Stores.{sets-on}
-use Rattle.line.proofs.FieldLaws.{spaced-append}
+use Rattle.decimal.specs.Fields.{spaced}
+use Rattle.line.specs.Lines.{lineFeed, row}
+use Rattle.decimal.proofs.Stores.{sets-on}
+use Rattle.decimal.proofs.FieldLaws.{spaced-append, length-spaced}
 
 module _ (word fields commands : List ℕ) where
   row-parts : row word (fields ++ commands) ≡ ((word ++ spaced fields) ++ spaced commands) ++ (lineFeed ∷ [])
@@ -35,13 +33,6 @@ module _ (word fields commands : List ℕ) where
       (ed ∙ sets-on l at (word ++ spaced fields) (spaced commands) (eb ∙ sets-on l at word (spaced fields) ea ei) (omega (arith, ei, ej, length-append word (spaced fields))))
       (omega (arith, ei, ej, ek, length-append (word ++ spaced fields) (spaced commands), length-append word (spaced fields)))
       ∙ ap (λ (r : List ℕ). sets l at r) (sym row-parts)
-
--- fields of at most k + 1 digits take at most k + 2 bytes each
-pub length-spaced : (k : ℕ) (ns : List ℕ) → ((i : ℕ) → getD ns i 0 < 10 ^ suc k) → length (spaced ns) ≤ (k + 2) * length ns
-unfolding spaced
-length-spaced k [] h = omega arith
-length-spaced k (n ∷ ns) h =
-    omega (arith, length-append (decimal n) (spaced ns), length-below k n (h 0), length-spaced k ns (λ i. h (suc i)), mul-suc (k + 2) (length ns))
 
 -- so many bytes are enough for any line: fields of 64 bits have at most 20 digits, and commands, which are bytes, at most three
 pub length-at-most : (word fields commands : List ℕ) → ((i : ℕ) → getD fields i 0 < 2 ^ 64) → ((i : ℕ) → getD commands i 0 < 256)

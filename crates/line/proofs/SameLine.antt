@@ -10,9 +10,10 @@ use native.Mathlib.Omega.{arith}
 use lib.Dec.{eqb, leb}
 use lib.ListN.{getD, drop}
 use borrow.Author.Tests.{leb-true}
-use Rattle.line.specs.Decimal.{digit, decimal}
-use Rattle.line.specs.Lines.{blank, lineFeed, spaced, row, Answer, plan, none, room, long, bad, word, fields, lineOf}
-use Rattle.line.proofs.DecimalLaws.{Within, nothing, also, decimal-digits, decimal-same}
+use Rattle.decimal.specs.Decimal.{digit, decimal}
+use Rattle.decimal.specs.Fields.{blank, spaced}
+use Rattle.line.specs.Lines.{lineFeed, row, Answer, plan, none, room, long, bad, word, fields, lineOf}
+use Rattle.decimal.proofs.DecimalLaws.{Within, nothing, also, decimal-digits, decimal-same}
 
 -- ---- bytes from `low` on, and then one below it
 

@@ -7,7 +7,8 @@ use native.Mathlib.Omega.{arith}
 use denote.Ref.{now}
 use lib.ListN.{length}
 use borrow.Author.Needs.{needs}
-use Rattle.line.specs.Lines.{spaced, row}
+use Rattle.decimal.specs.Fields.{spaced}
+use Rattle.line.specs.Lines.{row}
 use Rattle.line.proofs.RowLaws.{length-row, row-stored}
 use Rattle.line.proofs.put_parts.Statement.{statement}
 use Rattle.line.proofs.put_parts.Tie as tie

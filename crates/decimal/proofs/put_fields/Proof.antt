@@ -1,4 +1,4 @@
--- `line::put_fields` meets its contract. The loop's invariant: the first i fields stand in the buffer, and end where the next one is to start. The measure is
+-- `decimal::put_fields` meets its contract. The loop's invariant: the first i fields stand in the buffer, and end where the next one is to start. The measure is
 -- how many are left.
 -- Assumes nothing.
 use mathlib.Core.Path.{_≡_, refl, ap, _∙_}
@@ -9,10 +9,10 @@ use denote.Ref.{now}
 use lib.ListN.{length, take}
 use lib.Seq.{sets, length-sets, take-all}
 use borrow.Author.Needs.{needs}
-use Rattle.line.specs.Lines.{spaced}
-use Rattle.line.proofs.FieldLaws.{end-on, fits-on, field-on}
-use Rattle.line.proofs.put_fields.Statement.{statement}
-use Rattle.line.proofs.put_fields.Tie as tie
+use Rattle.decimal.specs.Fields.{spaced}
+use Rattle.decimal.proofs.FieldLaws.{end-on, fits-on, field-on}
+use Rattle.decimal.proofs.put_fields.Statement.{statement}
+use Rattle.decimal.proofs.put_fields.Tie as tie
 
 abbrev Inv-loop : tie.InvT-loop
 Inv-loop out₀ at fields end₀ i₀ out end i = (i ≤ length fields) × (end ≡ at + length (spaced (take i fields))) × (out ≡ sets out₀ at (spaced (take i fields)))

@@ -1,4 +1,4 @@
--- `line::put_commands` meets its contract, as `put_fields` does.
+-- `decimal::put_commands` meets its contract, as `put_fields` does.
 -- Assumes nothing.
 use mathlib.Core.Path.{_≡_, refl, ap, _∙_}
 use mathlib.Core.List.{List}
@@ -8,10 +8,10 @@ use denote.Ref.{now}
 use lib.ListN.{length, take}
 use lib.Seq.{sets, length-sets, take-all}
 use borrow.Author.Needs.{needs}
-use Rattle.line.specs.Lines.{spaced}
-use Rattle.line.proofs.FieldLaws.{end-on, fits-on, field-on}
-use Rattle.line.proofs.put_commands.Statement.{statement}
-use Rattle.line.proofs.put_commands.Tie as tie
+use Rattle.decimal.specs.Fields.{spaced}
+use Rattle.decimal.proofs.FieldLaws.{end-on, fits-on, field-on}
+use Rattle.decimal.proofs.put_commands.Statement.{statement}
+use Rattle.decimal.proofs.put_commands.Tie as tie
 
 abbrev Inv-loop : tie.InvT-loop
 Inv-loop out₀ at commands end₀ i₀ out end i = (i ≤ length commands) × (end ≡ at + length (spaced (take i commands))) × (out ≡ sets out₀ at (spaced (take i commands)))

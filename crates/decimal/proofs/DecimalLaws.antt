@@ -11,7 +11,7 @@ use native.Mathlib.Omega.{arith}
 use lib.Dec.{ltb}
 use lib.ListN.{length, getD, length-append, List·getD-append}
 use borrow.Author.Tests.{lt-ltb, le-ltb, ltb-true, ltb-false}
-use Rattle.line.specs.Decimal.{digit, spelled, decimal, readOn, value}
+use Rattle.decimal.specs.Decimal.{digit, spelled, decimal, readOn, value}
 
 -- below ten, or not
 abbrev pub below-ten : {P : Type 0} (n : ℕ) → (n < 10 → P) → (10 ≤ n → P) → P

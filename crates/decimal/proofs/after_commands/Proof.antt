@@ -1,4 +1,4 @@
--- `line::after_commands` meets its contract, as `after_fields` does.
+-- `decimal::after_commands` meets its contract, as `after_fields` does.
 -- Assumes nothing.
 use mathlib.Core.Path.{_≡_, ap, _∙_}
 use mathlib.Core.List.{List}
@@ -8,11 +8,10 @@ use denote.Ref.{now}
 use lib.ListN.{length, take}
 use lib.Seq.{take-all}
 use borrow.Author.Needs.{needs}
-use Rattle.line.specs.Lines.{spaced}
-use Rattle.line.specs.Placing.{capped}
-use Rattle.line.proofs.FieldLaws.{spaced-none, capped-on}
-use Rattle.line.proofs.after_commands.Statement.{statement}
-use Rattle.line.proofs.after_commands.Tie as tie
+use Rattle.decimal.specs.Fields.{spaced, capped}
+use Rattle.decimal.proofs.FieldLaws.{spaced-none, capped-on}
+use Rattle.decimal.proofs.after_commands.Statement.{statement}
+use Rattle.decimal.proofs.after_commands.Tie as tie
 
 abbrev Inv-loop : tie.InvT-loop
 Inv-loop at commands end₀ i₀ end i = (i ≤ length commands) × (end ≡ capped (at + length (spaced (take i commands))))

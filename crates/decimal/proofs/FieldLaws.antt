@@ -1,33 +1,17 @@
--- Laws of fields, each a blank and a number: a number stored from its last digit on, and one field more, counted and stored.
--- The idea: what is stored already and what is left to store are together the whole; a loop over the fields has put those of `take i`.
+-- Laws of fields, each a blank and a number: one field more, counted and stored.
+-- The idea: a loop over the fields has counted or put those of `take i`.
 -- Assumes nothing.
 use mathlib.Core.Path.{_≡_, refl, sym, ap, _∙_}
 use mathlib.Core.List.{List, [], _∷_, _++_, append-assoc, append-nil}
-use Prim.Native.Nat.{ℕ, _+_, _/_, _%_, _≤_, _<_}
+use Prim.Native.Nat.{ℕ, suc, _+_, _*_, _^_, _≤_, _<_}
+use native.Mathlib.Nat.{mul-suc}
 use native.Mathlib.Omega.{arith}
-use lib.ListN.{length, getD, take, drop, set, length-append, take-append-drop}
+use lib.ListN.{length, getD, take, drop, length-append, take-append-drop}
 use lib.Seq.{sets}
-use Rattle.line.specs.Decimal.{digit, decimal}
-use Rattle.line.specs.Lines.{blank, spaced}
-use Rattle.line.specs.Placing.{capped}
-use Rattle.line.proofs.DecimalLaws.{decimal-small, decimal-large, length-small, length-large}
-use Rattle.line.proofs.Stores.{sets-on, sets-last, take-next}
-
--- ---- a number's digits, of which the last goes to i
-
-module _ (l : List ℕ) (at n i : ℕ) (e : i + 1 ≡ at + length (decimal n)) where
-  pub digit-last : 10 ≤ n → sets (set l i (digit (n % 10))) at (decimal (n / 10)) ≡ sets l at (decimal n)
-  digit-last h =
-      ap (λ (k : ℕ). sets (set l k (digit (n % 10))) at (decimal (n / 10))) (omega (arith, length-large n h))
-      ∙ sets-last l at (decimal (n / 10)) (digit (n % 10))
-      ∙ ap (λ (ds : List ℕ). sets l at ds) (sym (decimal-large n h))
-
-  pub digit-only : n < 10 → set l i (digit n) ≡ sets l at (decimal n)
-  digit-only h =
-      ap (λ (k : ℕ). set l k (digit n)) (omega (arith, length-small n h))
-      ∙ ap (λ (ds : List ℕ). sets l at ds) (sym (decimal-small n h))
-
--- ---- fields
+use Rattle.decimal.specs.Decimal.{decimal}
+use Rattle.decimal.specs.Fields.{blank, spaced, capped}
+use Rattle.decimal.proofs.DecimalLaws.{length-below}
+use Rattle.decimal.proofs.Stores.{sets-on, take-next}
 
 pub spaced-append : (a b : List ℕ) → spaced (a ++ b) ≡ spaced a ++ spaced b
 unfolding spaced
@@ -46,6 +30,13 @@ spaced-none = refl
 length-part : (ns : List ℕ) (i : ℕ) → length (spaced (take i ns)) ≤ length (spaced ns)
 length-part ns i =
     omega (arith, ap (λ (ms : List ℕ). length (spaced ms)) (take-append-drop i ns), ap length (spaced-append (take i ns) (drop i ns)), length-append (spaced (take i ns)) (spaced (drop i ns)))
+
+-- fields of at most k + 1 digits take at most k + 2 bytes each
+pub length-spaced : (k : ℕ) (ns : List ℕ) → ((i : ℕ) → getD ns i 0 < 10 ^ suc k) → length (spaced ns) ≤ (k + 2) * length ns
+unfolding spaced
+length-spaced k [] h = omega arith
+length-spaced k (n ∷ ns) h =
+    omega (arith, length-append (decimal n) (spaced ns), length-below k n (h 0), length-spaced k ns (λ i. h (suc i)), mul-suc (k + 2) (length ns))
 
 -- a turn of a loop over fields: x is the field at i
 module _ (ns : List ℕ) (i : ℕ) (h : i < length ns) (at x : ℕ) (e : x ≡ getD ns i 0) where

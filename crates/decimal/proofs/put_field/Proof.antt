@@ -1,4 +1,4 @@
--- `line::put_field` meets its contract: the blank is stored, and the number after it.
+-- `decimal::put_field` meets its contract: the blank is stored, and the number after it.
 -- Assumes nothing.
 use mathlib.Core.Path.{ap, _∙_}
 use Prim.Native.Nat.{ℕ}
@@ -8,10 +8,10 @@ use denote.Ref.{now}
 use lib.ListN.{length, set, length-set}
 use lib.Seq.{sets, length-sets}
 use borrow.Author.Needs.{needs}
-use Rattle.line.specs.Decimal.{decimal}
-use Rattle.line.specs.Lines.{blank}
-use Rattle.line.proofs.put_field.Statement.{statement}
-use Rattle.line.proofs.put_field.Tie as tie
+use Rattle.decimal.specs.Decimal.{decimal}
+use Rattle.decimal.specs.Fields.{blank}
+use Rattle.decimal.proofs.put_field.Statement.{statement}
+use Rattle.decimal.proofs.put_field.Tie as tie
 
 slice-write-out : tie.Need-slice-write-out
 slice-write-out c = search needs
