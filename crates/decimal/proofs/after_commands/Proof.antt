@@ -1,26 +1,21 @@
--- `decimal::after_commands` meets its contract, as `after_fields` does.
+-- `decimal::after_commands` meets its contract. The loop's invariant: the end is that of the first i commands. The measure is how many are left.
 -- Assumes nothing.
-use mathlib.Core.Path.{_≡_, ap, _∙_}
-use mathlib.Core.List.{List}
-use Prim.Native.Nat.{ℕ, _+_, _-_, _≤_}
+use Prim.Native.Nat.{_-_}
 use native.Mathlib.Omega.{arith}
-use denote.Ref.{now}
-use lib.ListN.{length, take}
-use lib.Seq.{take-all}
+use lib.ListN.{length}
 use borrow.Author.Needs.{needs}
-use Rattle.decimal.specs.Fields.{spaced, capped}
-use Rattle.decimal.proofs.FieldLaws.{spaced-none, capped-on}
+use Rattle.decimal.proofs.Turns.{Counted, counted-none, counted-on, counted-all}
 use Rattle.decimal.proofs.after_commands.Statement.{statement}
 use Rattle.decimal.proofs.after_commands.Tie as tie
 
 abbrev Inv-loop : tie.InvT-loop
-Inv-loop at commands end₀ i₀ end i = (i ≤ length commands) × (end ≡ capped (at + length (spaced (take i commands))))
+Inv-loop at commands end₀ i₀ end i = Counted commands at end i
 
 abbrev μ-loop : tie.MeasureT-loop
 μ-loop at commands end₀ i₀ end i = length commands - i
 
 loop-holds : tie.Need-loop-holds Inv-loop μ-loop
-loop-holds c = (omega arith, omega (arith, ap length spaced-none))
+loop-holds c = counted-none _ _ (omega arith)
 
 shared-slice-read-wide : tie.Need-shared-slice-read-wide Inv-loop μ-loop
 shared-slice-read-wide c = search needs
@@ -41,14 +36,10 @@ loop-again : tie.Need-loop-again Inv-loop μ-loop
 loop-again c =
     let w = c .before in
     let t = w .before .before in
-    let l = t .before .loop in
-    let a = t .before .before .before .args in
-    (omega arith, capped-on (now (a .commands)) (l .i) (t .loop-test .taken) (a .at) _ (w .wide .ensures) (l .inv .1) (c .after-field .ensures))
+    counted-on (t .before .loop .inv) (t .loop-test .taken) (w .wide .ensures) (c .after-field .ensures)
 
 returns : tie.Need-returns Inv-loop μ-loop
-returns c =
-    let a = c .before .before .before .args in
-    c .before .loop .inv .1 ∙ ap (λ (ns : List ℕ). capped (a .at + length (spaced ns))) (take-all (c .before .loop .i) (now (a .commands)) (c .loop-test .left))
+returns c = counted-all (c .before .loop .inv) (c .loop-test .left)
 
 pub after-commands-spec : {M : Type 1} → statement M
 after-commands-spec =

@@ -1,26 +1,22 @@
 -- `decimal::after_fields` meets its contract. The loop's invariant: the end is that of the first i fields. The measure is how many are left.
 -- Assumes nothing.
-use mathlib.Core.Path.{_≡_, refl, ap, _∙_}
-use mathlib.Core.List.{List}
-use Prim.Native.Nat.{ℕ, _+_, _-_, _≤_}
+use mathlib.Core.Path.{refl}
+use Prim.Native.Nat.{_-_}
 use native.Mathlib.Omega.{arith}
-use denote.Ref.{now}
-use lib.ListN.{length, take}
-use lib.Seq.{take-all}
+use lib.ListN.{length}
 use borrow.Author.Needs.{needs}
-use Rattle.decimal.specs.Fields.{spaced, capped}
-use Rattle.decimal.proofs.FieldLaws.{spaced-none, capped-on}
+use Rattle.decimal.proofs.Turns.{Counted, counted-none, counted-on, counted-all}
 use Rattle.decimal.proofs.after_fields.Statement.{statement}
 use Rattle.decimal.proofs.after_fields.Tie as tie
 
 abbrev Inv-loop : tie.InvT-loop
-Inv-loop at fields end₀ i₀ end i = (i ≤ length fields) × (end ≡ capped (at + length (spaced (take i fields))))
+Inv-loop at fields end₀ i₀ end i = Counted fields at end i
 
 abbrev μ-loop : tie.MeasureT-loop
 μ-loop at fields end₀ i₀ end i = length fields - i
 
 loop-holds : tie.Need-loop-holds Inv-loop μ-loop
-loop-holds c = (omega arith, omega (arith, ap length spaced-none))
+loop-holds c = counted-none _ _ (omega arith)
 
 mul-after-field : tie.Need-mul-after-field Inv-loop μ-loop
 mul-after-field c = search needs
@@ -38,16 +34,10 @@ loop-less : tie.Need-loop-less Inv-loop μ-loop
 loop-less c = omega arith
 
 loop-again : tie.Need-loop-again Inv-loop μ-loop
-loop-again c =
-    let t = c .before .before in
-    let l = t .before .loop in
-    let a = t .before .before .before .args in
-    (omega arith, capped-on (now (a .fields)) (l .i) (t .loop-test .taken) (a .at) _ refl (l .inv .1) (c .after-field .ensures))
+loop-again c = let t = c .before .before in counted-on (t .before .loop .inv) (t .loop-test .taken) refl (c .after-field .ensures)
 
 returns : tie.Need-returns Inv-loop μ-loop
-returns c =
-    let a = c .before .before .before .args in
-    c .before .loop .inv .1 ∙ ap (λ (ns : List ℕ). capped (a .at + length (spaced ns))) (take-all (c .before .loop .i) (now (a .fields)) (c .loop-test .left))
+returns c = counted-all (c .before .loop .inv) (c .loop-test .left)
 
 pub after-fields-spec : {M : Type 1} → statement M
 after-fields-spec =
