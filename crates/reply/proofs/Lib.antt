@@ -1,1 +1,3 @@
 pub mod Replying
+pub mod RefusedPlace
+pub mod Fits
