@@ -1,6 +1,3 @@
-pub mod DecimalLaws
-pub mod Stores
-pub mod FieldLaws
 pub mod RowLaws
 pub mod PlacedLaws
 pub mod SameLine

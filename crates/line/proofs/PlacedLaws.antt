@@ -1,7 +1,6 @@
 -- Bytes put at a place: what is promised where the buffer has no room, and where it has; and what a caller learns of the promise, so that a program can print
 -- one line after another.
 -- The idea: an end that is at most the length of a buffer is no capped one, and where the bytes fit the promise is a run of stores.
--- Assumes nothing.
 use mathlib.Core.Path.{_≡_, refl, sym, ap, _∙_, subst}
 use mathlib.Core.Bool.{Bool, true, false, cond}
 use mathlib.Core.List.{List, _++_}
@@ -13,11 +12,12 @@ use lib.ListN.{length, take, drop, length-append}
 use lib.Seq.{sets, sets-eq, length-sets}
 use borrow.Author.Tests.{le-leb, lt-leb, leb-true}
 use Rattle.line.specs.Lines.{lineOf, answerOf}
-use Rattle.line.specs.Placing.{capped, answered, placed, Placed}
+use Rattle.decimal.specs.Fields.{capped}
+use Rattle.line.specs.Placing.{answered, placed, Placed}
 use Rattle.line.specs.declared.Line.{Line}
 use Rattle.line.specs.declared.Printed.{Printed}
 use Rattle.line.specs.declared.Printed.the-variants.{End, Short}
-use Rattle.line.proofs.Stores.{sets-on}
+use Rattle.decimal.proofs.Stores.{sets-on}
 
 -- the bytes fit: the end is answered, and they are stored
 pub stored-whole : (bytes : List ℕ) (at : ℕ) (before : List ℕ) {after : List ℕ} → at + length bytes ≤ length before → after ≡ sets before at bytes → Placed bytes at before after (End (at + length bytes))

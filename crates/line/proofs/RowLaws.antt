@@ -1,18 +1,15 @@
 -- A line of a word, fields and commands as its four parts, counted and stored.
 -- The idea: the fields and the commands are one list of fields, and runs of stores that follow one another are one run.
--- Assumes nothing.
 use mathlib.Core.Path.{_≡_, sym, ap, _∙_}
 use mathlib.Core.List.{List, [], _∷_, _++_, append-assoc}
 use Prim.Native.Nat.{ℕ, suc, _+_, _*_, _^_, _≤_, _<_}
-use native.Mathlib.Nat.{mul-suc}
 use native.Mathlib.Omega.{arith}
 use lib.ListN.{length, getD, length-append}
 use lib.Seq.{sets}
-use Rattle.line.specs.Decimal.{decimal}
-use Rattle.line.specs.Lines.{lineFeed, spaced, row}
-use Rattle.line.proofs.DecimalLaws.{length-below}
-use Rattle.line.proofs.Stores.{sets-on}
-use Rattle.line.proofs.FieldLaws.{spaced-append}
+use Rattle.decimal.specs.Fields.{spaced}
+use Rattle.line.specs.Lines.{lineFeed, row}
+use Rattle.decimal.proofs.Stores.{sets-on}
+use Rattle.decimal.proofs.FieldLaws.{spaced-append, length-spaced}
 
 module _ (word fields commands : List ℕ) where
   row-parts : row word (fields ++ commands) ≡ ((word ++ spaced fields) ++ spaced commands) ++ (lineFeed ∷ [])
@@ -36,15 +33,12 @@ module _ (word fields commands : List ℕ) where
       (omega (arith, ei, ej, ek, length-append (word ++ spaced fields) (spaced commands), length-append word (spaced fields)))
       ∙ ap (λ (r : List ℕ). sets l at r) (sym row-parts)
 
--- fields of at most k + 1 digits take at most k + 2 bytes each
-pub length-spaced : (k : ℕ) (ns : List ℕ) → ((i : ℕ) → getD ns i 0 < 10 ^ suc k) → length (spaced ns) ≤ (k + 2) * length ns
-unfolding spaced
-length-spaced k [] h = omega arith
-length-spaced k (n ∷ ns) h =
-    omega (arith, length-append (decimal n) (spaced ns), length-below k n (h 0), length-spaced k ns (λ i. h (suc i)), mul-suc (k + 2) (length ns))
+-- fields of at most j + 1 digits and commands of at most k + 1
+pub length-by-digits : (j k : ℕ) (word fields commands : List ℕ) → ((i : ℕ) → getD fields i 0 < 10 ^ suc j) → ((i : ℕ) → getD commands i 0 < 10 ^ suc k)
+    → length (row word (fields ++ commands)) ≤ length word + (j + 2) * length fields + (k + 2) * length commands + 1
+length-by-digits j k word fields commands f c = omega (arith, length-row word fields commands, length-spaced j fields f, length-spaced k commands c)
 
 -- so many bytes are enough for any line: fields of 64 bits have at most 20 digits, and commands, which are bytes, at most three
 pub length-at-most : (word fields commands : List ℕ) → ((i : ℕ) → getD fields i 0 < 2 ^ 64) → ((i : ℕ) → getD commands i 0 < 256)
     → length (row word (fields ++ commands)) ≤ length word + 21 * length fields + 4 * length commands + 1
-length-at-most word fields commands f c =
-    omega (arith, length-row word fields commands, length-spaced 19 fields (λ i. omega (arith, f i)), length-spaced 2 commands (λ i. omega (arith, c i)))
+length-at-most word fields commands f c = length-by-digits 19 2 word fields commands (λ i. omega (arith, f i)) (λ i. omega (arith, c i))

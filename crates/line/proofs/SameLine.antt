@@ -1,7 +1,6 @@
 -- Two answers with the same line are equal: the line tells all of an answer.
 -- The idea: letters and digits go on up to the first blank or line feed, so the word and each field can be told from what follows; and the five words
 -- differ in their first letter.
--- Assumes nothing.
 use mathlib.Core.Path.{_≡_, refl, sym, ap₂, _∙_}
 use mathlib.Core.Bool.{Bool, true, false, cond}
 use mathlib.Core.List.{List, [], _∷_, _++_, append-assoc}
@@ -10,9 +9,10 @@ use native.Mathlib.Omega.{arith}
 use lib.Dec.{eqb, leb}
 use lib.ListN.{getD, drop}
 use borrow.Author.Tests.{leb-true}
-use Rattle.line.specs.Decimal.{digit, decimal}
-use Rattle.line.specs.Lines.{blank, lineFeed, spaced, row, Answer, plan, none, room, long, bad, word, fields, lineOf}
-use Rattle.line.proofs.DecimalLaws.{Within, nothing, also, decimal-digits, decimal-same}
+use Rattle.decimal.specs.Decimal.{digit, decimal}
+use Rattle.decimal.specs.Fields.{blank, spaced}
+use Rattle.line.specs.Lines.{lineFeed, row, Answer, plan, none, room, long, bad, word, fields, lineOf}
+use Rattle.decimal.proofs.DecimalLaws.{Within, nothing, also, decimal-digits, decimal-same}
 
 -- ---- bytes from `low` on, and then one below it
 

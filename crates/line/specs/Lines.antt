@@ -1,20 +1,12 @@
 -- The lines of the printing program: a word, then fields, each with one blank before it, then a line feed.
 use mathlib.Core.List.{List, [], _∷_, _++_}
 use Prim.Native.Nat.{ℕ}
-use Rattle.line.specs.Decimal.{decimal}
+use Rattle.decimal.specs.Fields.{spaced}
 use Rattle.line.specs.declared.Line.{Line}
 use Rattle.line.specs.declared.Line.the-variants.{Plan, None, Room, Long, Bad}
 
-abbrev pub blank : ℕ
-blank = 32
-
 abbrev pub lineFeed : ℕ
 lineFeed = 10
-
--- numbers, each with one blank before it
-unfoldable pub spaced : List ℕ → List ℕ
-spaced [] = []
-spaced (n ∷ ns) = blank ∷ decimal n ++ spaced ns
 
 -- a line of a word and some fields
 unfoldable pub row : List ℕ → List ℕ → List ℕ

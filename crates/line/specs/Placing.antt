@@ -2,15 +2,12 @@
 use mathlib.Core.Path.{_≡_}
 use mathlib.Core.Bool.{cond}
 use mathlib.Core.List.{List, _++_}
-use Prim.Native.Nat.{ℕ, _+_, min}
+use Prim.Native.Nat.{ℕ, _+_}
 use lib.Dec.{leb}
 use lib.ListN.{length, take, drop}
+use Rattle.decimal.specs.Fields.{capped}
 use Rattle.line.specs.declared.Printed.{Printed}
 use Rattle.line.specs.declared.Printed.the-variants.{End, Short}
-
--- a number of bytes as an answer can say it: the largest usize stands for itself and for all above it
-abbrev pub capped : ℕ → ℕ
-capped n = min n 18446744073709551615
 
 -- the answer by where the bytes end and by the length of the buffer
 unfoldable pub answered : ℕ → ℕ → Printed

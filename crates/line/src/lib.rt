@@ -4,13 +4,9 @@ ghost use mathlib.Core.List.{[], _∷_, _++_};
 ghost use Prim.Native.Nat.{_+_, _≤_};
 ghost use lib.ListN.{length};
 ghost use lib.Seq.{sets as stored};
-ghost use Rattle.line.specs.Decimal.{decimal};
-ghost use Rattle.line.specs.Lines.{blank, spaced, row, answerOf, lineOf};
-ghost use Rattle.line.specs.Placing.{capped, Placed};
-
-const BLANK: u8 = 32;
-
-const LARGEST: usize = 18446744073709551615;
+ghost use Rattle.decimal.specs.Fields.{capped};
+ghost use Rattle.line.specs.Lines.{row, answerOf, lineOf};
+ghost use Rattle.line.specs.Placing.{Placed};
 
 // What is printed. The commands of a plan come beside it, as bytes.
 pub enum Line {
@@ -27,70 +23,13 @@ pub enum Printed {
     Short(usize),
 }
 
-fn wide(x: u8) -> u64
-    ensures { λ r. ⌜ r ≡ x ⌝ }
-{
-    x as u64
-}
-
-// How many digits a number has.
-fn digits(n: u64) -> usize
-    ensures { λ r. ⌜ r ≡ length (decimal n) ⌝ }
-{
-    let mut count = 1;
-    let mut rest = n;
-    while 10 <= rest {
-        rest /= 10;
-        count += 1;
-    }
-    count
-}
-
-// A sum of two numbers of bytes, and the largest number where the sum is above it.
-fn plus(a: usize, b: usize) -> usize
-    ensures { λ r. ⌜ r ≡ capped (a + b) ⌝ }
-{
-    if LARGEST - a < b { LARGEST } else { a + b }
-}
-
-// Where a field ends that starts at a place, where some fields end, and where some commands do.
-fn after_field(at: usize, n: u64) -> usize
-    ensures { λ r. ⌜ r ≡ capped (at + length (blank ∷ decimal n)) ⌝ }
-{
-    plus(plus(at, 1), digits(n))
-}
-
-fn after_fields(at: usize, fields: &[u64]) -> usize
-    ensures { λ r. ⌜ r ≡ capped (at + length (spaced (now (fields .entry)))) ⌝ }
-{
-    let mut end = at;
-    let mut i = 0;
-    while i < fields.len() {
-        end = after_field(end, fields[i]);
-        i += 1;
-    }
-    end
-}
-
-fn after_commands(at: usize, commands: &[u8]) -> usize
-    ensures { λ r. ⌜ r ≡ capped (at + length (spaced (now (commands .entry)))) ⌝ }
-{
-    let mut end = at;
-    let mut i = 0;
-    while i < commands.len() {
-        end = after_field(end, wide(commands[i]));
-        i += 1;
-    }
-    end
-}
-
 // Where a line ends that starts at a place.
 fn after_row(at: usize, word: &[u8], fields: &[u64], commands: &[u8]) -> usize
     ensures { λ r. ⌜ r ≡ capped (at + length (row (now (word .entry)) (now (fields .entry) ++ now (commands .entry)))) ⌝ }
 {
-    let start = plus(at, word.len());
-    let end = after_commands(after_fields(start, fields), commands);
-    plus(end, 1)
+    let start = decimal::plus(at, word.len());
+    let end = decimal::after_commands(decimal::after_fields(start, fields), commands);
+    decimal::plus(end, 1)
 }
 
 // The bytes of a word, put at a place. Each function that puts bytes says where they end.
@@ -107,70 +46,14 @@ fn put_word(out: &mut [u8], at: usize, word: &[u8]) -> usize
     at + i
 }
 
-// The digits of a number, the last one first.
-fn put_number(out: &mut [u8], at: usize, n: u64) -> usize
-    requires { ⌜ at + length (decimal n) ≤ length (now out) ⌝ }
-    ensures { λ r. ⌜ r ≡ at + length (decimal n) ⌝ }
-    ensures { λ _. ⌜ now (out .exit) ≡ stored (now (out .entry)) at (decimal n) ⌝ }
-{
-    let end = at + digits(n);
-    let mut i = end - 1;
-    let mut rest = n;
-    while 10 <= rest {
-        out[i] = 48 + (rest % 10) as u8;
-        rest /= 10;
-        i -= 1;
-    }
-    out[i] = 48 + rest as u8;
-    end
-}
-
-// A field: a blank and a number.
-fn put_field(out: &mut [u8], at: usize, n: u64) -> usize
-    requires { ⌜ at + length (blank ∷ decimal n) ≤ length (now out) ⌝ }
-    ensures { λ r. ⌜ r ≡ at + length (blank ∷ decimal n) ⌝ }
-    ensures { λ _. ⌜ now (out .exit) ≡ stored (now (out .entry)) at (blank ∷ decimal n) ⌝ }
-{
-    out[at] = BLANK;
-    put_number(out, at + 1, n)
-}
-
-fn put_fields(out: &mut [u8], at: usize, fields: &[u64]) -> usize
-    requires { ⌜ at + length (spaced (now fields)) ≤ length (now out) ⌝ }
-    ensures { λ r. ⌜ r ≡ at + length (spaced (now (fields .entry))) ⌝ }
-    ensures { λ _. ⌜ now (out .exit) ≡ stored (now (out .entry)) at (spaced (now (fields .entry))) ⌝ }
-{
-    let mut end = at;
-    let mut i = 0;
-    while i < fields.len() {
-        end = put_field(out, end, fields[i]);
-        i += 1;
-    }
-    end
-}
-
-fn put_commands(out: &mut [u8], at: usize, commands: &[u8]) -> usize
-    requires { ⌜ at + length (spaced (now commands)) ≤ length (now out) ⌝ }
-    ensures { λ r. ⌜ r ≡ at + length (spaced (now (commands .entry))) ⌝ }
-    ensures { λ _. ⌜ now (out .exit) ≡ stored (now (out .entry)) at (spaced (now (commands .entry))) ⌝ }
-{
-    let mut end = at;
-    let mut i = 0;
-    while i < commands.len() {
-        end = put_field(out, end, wide(commands[i]));
-        i += 1;
-    }
-    end
-}
-
 // A whole line, where the buffer has room for it.
 fn put_parts(out: &mut [u8], at: usize, word: &[u8], fields: &[u64], commands: &[u8])
     requires { ⌜ at + length (row (now word) (now fields ++ now commands)) ≤ length (now out) ⌝ }
     ensures { λ _. ⌜ now (out .exit) ≡ stored (now (out .entry)) at (row (now (word .entry)) (now (fields .entry) ++ now (commands .entry))) ⌝ }
 {
     let start = put_word(out, at, word);
-    let middle = put_fields(out, start, fields);
-    let end = put_commands(out, middle, commands);
+    let middle = decimal::put_fields(out, start, fields);
+    let end = decimal::put_commands(out, middle, commands);
     put_word(out, end, b"\n");
 }
 

@@ -10,6 +10,7 @@ pub mod Fields
 pub mod RoundTrip
 pub mod Accepted
 pub mod RefusedAs
+pub mod RefusedPlace
 pub mod Unique
 pub mod DomainLaws
 pub mod Bench

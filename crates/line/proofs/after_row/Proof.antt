@@ -1,5 +1,4 @@
 -- `line::after_row` meets its contract: the lengths of the parts are added up.
--- Assumes nothing.
 use native.Mathlib.Omega.{arith}
 use denote.Ref.{now}
 use Rattle.line.proofs.RowLaws.{length-row}

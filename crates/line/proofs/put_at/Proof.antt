@@ -1,5 +1,4 @@
 -- `line::put_at` meets its contract: each case calls with its own word and fields.
--- Assumes nothing.
 use denote.Ref.{now}
 use borrow.Author.Needs.{needs}
 use Rattle.line.proofs.PlacedLaws.{of-case}

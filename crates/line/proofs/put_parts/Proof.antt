@@ -1,5 +1,4 @@
 -- `line::put_parts` meets its contract: word, fields, commands and line feed are stored one after another, which is the line.
--- Assumes nothing.
 use mathlib.Core.Path.{_≡_}
 use mathlib.Core.List.{_++_}
 use Prim.Native.Nat.{_+_}
@@ -7,7 +6,8 @@ use native.Mathlib.Omega.{arith}
 use denote.Ref.{now}
 use lib.ListN.{length}
 use borrow.Author.Needs.{needs}
-use Rattle.line.specs.Lines.{spaced, row}
+use Rattle.decimal.specs.Fields.{spaced}
+use Rattle.line.specs.Lines.{row}
 use Rattle.line.proofs.RowLaws.{length-row, row-stored}
 use Rattle.line.proofs.put_parts.Statement.{statement}
 use Rattle.line.proofs.put_parts.Tie as tie

@@ -1,5 +1,4 @@
 -- `line::put_row` meets its contract: without room nothing is stored, and with room the line is.
--- Assumes nothing.
 use mathlib.Core.List.{_++_}
 use native.Mathlib.Omega.{arith}
 use denote.Ref.{now}

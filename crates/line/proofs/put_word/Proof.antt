@@ -1,5 +1,4 @@
 -- `line::put_word` meets its contract. The loop's invariant: the first i bytes of the word stand in the buffer. The measure is how many are left.
--- Assumes nothing.
 use mathlib.Core.Path.{_≡_, refl, ap, _∙_}
 use mathlib.Core.List.{List}
 use Prim.Native.Nat.{ℕ, _-_, _≤_}
@@ -7,7 +6,7 @@ use native.Mathlib.Omega.{arith}
 use denote.Ref.{now}
 use lib.ListN.{length, take}
 use lib.Seq.{sets, length-sets, take-all}
-use Rattle.line.proofs.Stores.{word-on}
+use Rattle.decimal.proofs.Stores.{word-on}
 use Rattle.line.proofs.put_word.Statement.{statement}
 use Rattle.line.proofs.put_word.Tie as tie
 

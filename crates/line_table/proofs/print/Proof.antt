@@ -1,5 +1,4 @@
 -- `line_table::print` meets its contract: the line ends within the buffer, by what `put` promises.
--- Assumes nothing.
 use mathlib.Core.Path.{sym}
 use Prim.Native.Nat.{_≤_}
 use native.Mathlib.Omega.{arith}

@@ -1,16 +1,16 @@
 -- `reply::refusal_line` meets its contract: by the two tests of the number.
-use borrow.Author.Tests.{eq-eqb, ne-eqb}
+use Rattle.reply.proofs.Replying.{refused-room, refused-long, refused-bad}
 use Rattle.reply.proofs.refusal_line.Statement.{statement}
 use Rattle.reply.proofs.refusal_line.Tie as tie
 
 returns : tie.Need-returns
-returns c = simp (eq-eqb _ _ (c .if1 .taken))
+returns c = refused-room _ _ _ _ (c .if1 .taken)
 
 returns-2 : tie.Need-returns-2
-returns-2 c = simp (ne-eqb _ _ (c .before .if1 .left), eq-eqb _ _ (c .if2 .taken))
+returns-2 c = refused-long _ _ _ _ (c .before .if1 .left) (c .if2 .taken)
 
 returns-3 : tie.Need-returns-3
-returns-3 c = simp (ne-eqb _ _ (c .before .if1 .left), ne-eqb _ _ (c .if2 .left))
+returns-3 c = refused-bad _ _ _ _ (c .before .if1 .left) (c .if2 .left)
 
 pub refusal-line-spec : {M : Type 1} → statement M
 refusal-line-spec = tie.close (tie.spec returns returns-2 returns-3)

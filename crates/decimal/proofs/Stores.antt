@@ -1,6 +1,5 @@
 -- Bytes stored one run after another.
 -- The idea: two runs of stores, the second where the first ends, are one run, and a run's last byte may be stored first.
--- Assumes nothing.
 use mathlib.Core.Path.{_≡_, sym, ap, ap₂, _∙_}
 use mathlib.Core.List.{List, [], _∷_, _++_}
 use Prim.Native.Nat.{ℕ, suc, _+_, _<_}

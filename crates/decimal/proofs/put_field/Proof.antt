@@ -1,5 +1,4 @@
--- `line::put_field` meets its contract: the blank is stored, and the number after it.
--- Assumes nothing.
+-- `decimal::put_field` meets its contract: the blank is stored, and the number after it.
 use mathlib.Core.Path.{ap, _∙_}
 use Prim.Native.Nat.{ℕ}
 use native.Mathlib.Omega.{arith}
@@ -8,10 +7,10 @@ use denote.Ref.{now}
 use lib.ListN.{length, set, length-set}
 use lib.Seq.{sets, length-sets}
 use borrow.Author.Needs.{needs}
-use Rattle.line.specs.Decimal.{decimal}
-use Rattle.line.specs.Lines.{blank}
-use Rattle.line.proofs.put_field.Statement.{statement}
-use Rattle.line.proofs.put_field.Tie as tie
+use Rattle.decimal.specs.Decimal.{decimal}
+use Rattle.decimal.specs.Fields.{blank}
+use Rattle.decimal.proofs.put_field.Statement.{statement}
+use Rattle.decimal.proofs.put_field.Tie as tie
 
 slice-write-out : tie.Need-slice-write-out
 slice-write-out c = search needs

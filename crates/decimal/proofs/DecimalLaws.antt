@@ -1,7 +1,6 @@
 -- Laws of decimal: the two equations by which the code goes, and what a reader wants to know of the digits. They stand for the number again, each is
 -- a digit, the first of a number above 0 is no zero, and numbers with the same digits are equal.
 -- The idea: whatever holds of the numbers below ten, and of a number where it holds of a tenth of it, holds of all (`by-tenths`).
--- Assumes nothing.
 use mathlib.Core.Path.{_≡_, refl, sym, ap, _∙_}
 use mathlib.Core.Bool.{Bool, true, false}
 use mathlib.Core.List.{List, [], _∷_, _++_}
@@ -11,7 +10,7 @@ use native.Mathlib.Omega.{arith}
 use lib.Dec.{ltb}
 use lib.ListN.{length, getD, length-append, List·getD-append}
 use borrow.Author.Tests.{lt-ltb, le-ltb, ltb-true, ltb-false}
-use Rattle.line.specs.Decimal.{digit, spelled, decimal, readOn, value}
+use Rattle.decimal.specs.Decimal.{digit, spelled, decimal, readOn, value}
 
 -- below ten, or not
 abbrev pub below-ten : {P : Type 0} (n : ℕ) → (n < 10 → P) → (10 ≤ n → P) → P

@@ -1,17 +1,16 @@
--- `line::put_number` meets its contract. The loop's invariant: with the digits of the rest stored too, the buffer has the digits of the number, and the
+-- `decimal::put_number` meets its contract. The loop's invariant: with the digits of the rest stored too, the buffer has the digits of the number, and the
 -- last of them is to go to i. The measure is the rest.
--- Assumes nothing.
 use mathlib.Core.Path.{_≡_, refl, _∙_}
 use Prim.Native.Nat.{_+_, _/_, _≤_}
 use native.Mathlib.Omega.{arith}
 use lib.ListN.{length, length-set}
 use lib.Seq.{sets}
 use borrow.Author.Needs.{needs}
-use Rattle.line.specs.Decimal.{decimal}
-use Rattle.line.proofs.DecimalLaws.{length-some, length-large}
-use Rattle.line.proofs.FieldLaws.{digit-last, digit-only}
-use Rattle.line.proofs.put_number.Statement.{statement}
-use Rattle.line.proofs.put_number.Tie as tie
+use Rattle.decimal.specs.Decimal.{decimal}
+use Rattle.decimal.proofs.DecimalLaws.{length-some, length-large}
+use Rattle.decimal.proofs.DigitLaws.{digit-last, digit-only}
+use Rattle.decimal.proofs.put_number.Statement.{statement}
+use Rattle.decimal.proofs.put_number.Tie as tie
 
 abbrev Inv-loop : tie.InvT-loop
 Inv-loop out₀ at n end i₀ rest₀ out i rest = (i + 1 ≡ at + length (decimal rest)) × (length (decimal rest) ≤ length (decimal n)) × (length out ≡ length out₀) × (sets out at (decimal rest) ≡ sets out₀ at (decimal n))

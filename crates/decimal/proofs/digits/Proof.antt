@@ -1,13 +1,12 @@
--- `line::digits` meets its contract. The loop's invariant: the digits counted and those of the rest are one more than all. The measure is the rest.
--- Assumes nothing.
+-- `decimal::digits` meets its contract. The loop's invariant: the digits counted and those of the rest are one more than all. The measure is the rest.
 use mathlib.Core.Path.{_≡_}
 use Prim.Native.Nat.{_+_, _≤_}
 use native.Mathlib.Omega.{arith}
 use lib.ListN.{length}
-use Rattle.line.specs.Decimal.{decimal}
-use Rattle.line.proofs.DecimalLaws.{length-small, length-large}
-use Rattle.line.proofs.digits.Statement.{statement}
-use Rattle.line.proofs.digits.Tie as tie
+use Rattle.decimal.specs.Decimal.{decimal}
+use Rattle.decimal.proofs.DecimalLaws.{length-small, length-large}
+use Rattle.decimal.proofs.digits.Statement.{statement}
+use Rattle.decimal.proofs.digits.Tie as tie
 
 abbrev Inv-loop : tie.InvT-loop
 Inv-loop n count₀ rest₀ count rest = (count + length (decimal rest) ≡ length (decimal n) + 1) × (count + rest ≤ n + 1)
