@@ -1,12 +1,12 @@
 -- Bytes stored one run after another.
 -- The idea: two runs of stores, the second where the first ends, are one run, and a run's last byte may be stored first.
-use mathlib.Core.Path.{_≡_, sym, ap, ap₂, _∙_}
+use mathlib.Core.Path.{_≡_, ap, ap₂, _∙_}
 use mathlib.Core.List.{List, [], _∷_, _++_}
 use Prim.Native.Nat.{ℕ, suc, _+_, _<_}
 use native.Mathlib.Numerals.{add-one}
 use native.Mathlib.Omega.{arith}
 use lib.ListN.{length, getD, take, set}
-use lib.Seq.{sets, set-comm, take-suc, length-take-le}
+use lib.Seq.{sets, set-comm, take-suc}
 use Rattle.meaning.proofs.Places.{sets-append}
 
 -- a run that goes on where another ends
@@ -23,10 +23,3 @@ sets-last l i (y ∷ a) x =
 -- one element more
 pub take-next : (xs : List ℕ) (i : ℕ) → i < length xs → take (i + 1) xs ≡ take i xs ++ (getD xs i 0 ∷ [])
 take-next xs i h = ap (λ (k : ℕ). take k xs) (add-one i) ∙ take-suc xs i 0 h
-
--- one byte more of a word
-pub word-on : (l : List ℕ) (at : ℕ) (w : List ℕ) (i : ℕ) → i < length w → {m : List ℕ} → m ≡ sets l at (take i w)
-    → set m (at + i) (getD w i 0) ≡ sets l at (take (i + 1) w)
-word-on l at w i h e =
-    sets-on l at (take i w) (getD w i 0 ∷ []) e (ap (λ (k : ℕ). at + k) (sym (length-take-le i w (omega arith))))
-    ∙ ap (λ (v : List ℕ). sets l at v) (sym (take-next w i h))

@@ -4,12 +4,19 @@ use mathlib.Core.Path.{_≡_, sym, ap, _∙_}
 use mathlib.Core.List.{List, [], _∷_, _++_, append-assoc}
 use Prim.Native.Nat.{ℕ, suc, _+_, _*_, _^_, _≤_, _<_}
 use native.Mathlib.Omega.{arith}
-use lib.ListN.{length, getD, length-append}
-use lib.Seq.{sets}
+use lib.ListN.{length, getD, take, set, length-append}
+use lib.Seq.{sets, length-take-le}
 use Rattle.decimal.specs.Fields.{spaced}
 use Rattle.line.specs.Lines.{lineFeed, row}
-use Rattle.decimal.proofs.Stores.{sets-on}
+use Rattle.decimal.proofs.Stores.{sets-on, take-next}
 use Rattle.decimal.proofs.FieldLaws.{spaced-append, length-spaced}
+
+-- one byte more of a word
+pub word-on : (l : List ℕ) (at : ℕ) (w : List ℕ) (i : ℕ) → i < length w → {m : List ℕ} → m ≡ sets l at (take i w)
+    → set m (at + i) (getD w i 0) ≡ sets l at (take (i + 1) w)
+word-on l at w i h e =
+    sets-on l at (take i w) (getD w i 0 ∷ []) e (ap (λ (k : ℕ). at + k) (sym (length-take-le i w (omega arith))))
+    ∙ ap (λ (v : List ℕ). sets l at v) (sym (take-next w i h))
 
 module _ (word fields commands : List ℕ) where
   row-parts : row word (fields ++ commands) ≡ ((word ++ spaced fields) ++ spaced commands) ++ (lineFeed ∷ [])

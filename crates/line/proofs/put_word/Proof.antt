@@ -6,7 +6,7 @@ use native.Mathlib.Omega.{arith}
 use denote.Ref.{now}
 use lib.ListN.{length, take}
 use lib.Seq.{sets, length-sets, take-all}
-use Rattle.decimal.proofs.Stores.{word-on}
+use Rattle.line.proofs.RowLaws.{word-on}
 use Rattle.line.proofs.put_word.Statement.{statement}
 use Rattle.line.proofs.put_word.Tie as tie
 
