@@ -1,4 +1,4 @@
--- `search::explore` meets its contract: a walk of its MIR, and what the walk asks.
+-- `explore::explore` meets its contract: a walk of its MIR, and what the walk asks.
 use mathlib.Core.Path.{_≡_, refl, _∙_}
 use mathlib.Core.List.{List, [], _∷_}
 use Prim.Native.Nat.{ℕ, _<_, _≤_}
@@ -23,28 +23,28 @@ use Rattle.walks.proofs.Walk.{Callee, now as here, _$_, _then_, _free_, returne
 use Rattle.walks.proofs.Values.{is, holds, value-room, val-arg, copies-value}
 use Rattle.walks.proofs.Slices.{ptr, kept, mut-len, mut-all, owed-len, lends, slices, backs, mut-arg, shr-arg, a-lent}
 use Rattle.walks.proofs.Meets.{site, Walked, Laid, closes, Cited, cites}
-use Rattle.search.proofs.TurnLaws.{explored-in, no-place, started-ended, started-asks, started-ran}
-use Rattle.search.proofs.Literals.{num-top}
-use Rattle.search.proofs.Types.{head-type, turn-type, kind-of}
-use Rattle.search.proofs.Jobs as jobs
-use Rattle.search.proofs.Jobs.{explore as job}
-use Rattle.search.proofs.run.Symbol as run-def
-use Rattle.search.proofs.run.Met as run-thm
-use Rattle.search.proofs.room_of.Symbol as room-def
-use Rattle.search.proofs.room_of.Kinds as room-kinds
-use Rattle.search.proofs.room_of.Reads as room-reads
-use Rattle.search.proofs.room_of.Met as room-thm
-use Rattle.search.proofs.turned.Symbol as turned-def
-use Rattle.search.proofs.turned.Kinds as turned-kinds
-use Rattle.search.proofs.turned.Reads as turned-reads
-use Rattle.search.proofs.turned.Met as turned-thm
-use Rattle.search.proofs.stored.Symbol as stored-def
-use Rattle.search.proofs.stored.Kinds as stored-kinds
-use Rattle.search.proofs.stored.Reads as stored-reads
-use Rattle.search.proofs.stored.Met as stored-thm
-use Rattle.search.proofs.explore.Key.{name}
-use Rattle.search.proofs.explore.Statement.{statement}
-use Rattle.search.proofs.explore.Code as code
+use Rattle.explore.proofs.TurnLaws.{explored-in, no-place, started-ended, started-asks, started-ran}
+use Rattle.explore.proofs.Literals.{num-top}
+use Rattle.explore.proofs.Types.{head-type, turn-type, kind-of}
+use Rattle.explore.proofs.Jobs as jobs
+use Rattle.explore.proofs.Jobs.{explore as job}
+use Rattle.explore.proofs.run.Symbol as run-def
+use Rattle.explore.proofs.run.Met as run-thm
+use Rattle.explore.proofs.room_of.Symbol as room-def
+use Rattle.explore.proofs.room_of.Kinds as room-kinds
+use Rattle.explore.proofs.room_of.Reads as room-reads
+use Rattle.explore.proofs.room_of.Met as room-thm
+use Rattle.explore.proofs.turned.Symbol as turned-def
+use Rattle.explore.proofs.turned.Kinds as turned-kinds
+use Rattle.explore.proofs.turned.Reads as turned-reads
+use Rattle.explore.proofs.turned.Met as turned-thm
+use Rattle.explore.proofs.stored.Symbol as stored-def
+use Rattle.explore.proofs.stored.Kinds as stored-kinds
+use Rattle.explore.proofs.stored.Reads as stored-reads
+use Rattle.explore.proofs.stored.Met as stored-thm
+use Rattle.explore.proofs.explore.Key.{name}
+use Rattle.explore.proofs.explore.Statement.{statement}
+use Rattle.explore.proofs.explore.Code as code
 
 some : (n : ℕ) → (n ≡ 0 → ⊥) → 0 < n
 some n p = omega arith
@@ -54,16 +54,16 @@ module _ (w : World) where
   put = cites job store-jobs.put w code.env put-def.name put-def.routine code.calls-store·put (put-thm.met (w .𝓤) (w .H) (w .𝓜) (w .𝓖) (w .𝓡))
 
   run : Cited job jobs.run w code.env run-def.name
-  run = cites job jobs.run w code.env run-def.name run-def.routine code.calls-search·run (run-thm.met (w .𝓤) (w .H) (w .𝓜) (w .𝓖) (w .𝓡))
+  run = cites job jobs.run w code.env run-def.name run-def.routine code.calls-explore·run (run-thm.met (w .𝓤) (w .H) (w .𝓜) (w .𝓖) (w .𝓡))
 
   room-of : (bs : List ℕ) → Callee (site job w code.env bs) 0 room-kinds.ps room-kinds.r room-reads.Asked room-reads.Learnt room-def.name
-  room-of bs = record { known = room-reads.known w code.env room-def.name room-def.routine code.calls-search·room-of (room-thm.met (w .𝓤) (w .H) (w .𝓜) (w .𝓖) (w .𝓡)) }
+  room-of bs = record { known = room-reads.known w code.env room-def.name room-def.routine code.calls-explore·room-of (room-thm.met (w .𝓤) (w .H) (w .𝓜) (w .𝓖) (w .𝓡)) }
 
   turned : (bs : List ℕ) → Callee (site job w code.env bs) 0 turned-kinds.ps turned-kinds.r turned-reads.Asked turned-reads.Learnt turned-def.name
-  turned bs = record { known = turned-reads.known w code.env turned-def.name turned-def.routine code.calls-search·turned (turned-thm.met (w .𝓤) (w .H) (w .𝓜) (w .𝓖) (w .𝓡)) }
+  turned bs = record { known = turned-reads.known w code.env turned-def.name turned-def.routine code.calls-explore·turned (turned-thm.met (w .𝓤) (w .H) (w .𝓜) (w .𝓖) (w .𝓡)) }
 
   stored : (bs : List ℕ) → Callee (site job w code.env bs) 0 stored-kinds.ps stored-kinds.r stored-reads.Asked stored-reads.Learnt stored-def.name
-  stored bs = record { known = stored-reads.known w code.env stored-def.name stored-def.routine code.calls-search·stored (stored-thm.met (w .𝓤) (w .H) (w .𝓜) (w .𝓖) (w .𝓡)) }
+  stored bs = record { known = stored-reads.known w code.env stored-def.name stored-def.routine code.calls-explore·stored (stored-thm.met (w .𝓤) (w .H) (w .𝓜) (w .𝓖) (w .𝓡)) }
 
   -- the contexts: with the room, and with the goal test
   module _ (κs : Lfts 2) (qs : Shares 2) where

@@ -1,10 +1,10 @@
--- `search::stored` meets its contract, by cases on the goal test.
+-- `explore::stored` meets its contract, by cases on the goal test.
 use mathlib.Core.Path.{ap}
 use mathlib.Core.Logic.{inl, inr}
-use Rattle.search.specs.declared.Turn.{Turn}
+use Rattle.explore.specs.declared.Turn.{Turn}
 use borrow.Author.Needs.{needs}
-use Rattle.search.proofs.stored.Statement.{statement}
-use Rattle.search.proofs.stored.Tie as tie
+use Rattle.explore.proofs.stored.Statement.{statement}
+use Rattle.explore.proofs.stored.Tie as tie
 
 inside-requires : tie.Need-inside-requires
 inside-requires c κs = search needs

@@ -22,9 +22,9 @@ use Rattle.meaning.proofs.Places.{at-fun, at-lt}
 use Rattle.meaning.proofs.ProgressLaws.{progress-none, progress-seen, progress-grow, new-place, not-all, progress-turn, progress-end, progress-start, place-0}
 use Rattle.store.specs.declared.Node.{Node}
 use Rattle.store.specs.Nodes.{node, nothing, nodeAt, setAt, meant}
-use Rattle.search.specs.Done.{Ready}
-use Rattle.search.specs.Turns.{ends-plan, ends-no-plan, ends-no-room, goes-on, turn, Old, not-sendable, seen, Fresh, Tested, Stored, Kept, Going, Ended, Turned, Explored}
-use Rattle.search.specs.declared.Turn.{Turn}
+use Rattle.explore.specs.Ready.{Ready}
+use Rattle.explore.specs.Turns.{ends-plan, ends-no-plan, ends-no-room, goes-on, turn, Old, not-sendable, seen, Fresh, Tested, Stored, Kept, Going, Ended, Turned, Explored}
+use Rattle.explore.specs.declared.Turn.{Turn}
 
 -- ---- the later places
 

@@ -1,4 +1,4 @@
--- `search::run` meets its contract: a walk of its MIR, and what the walk asks. Each turn of the loop is a law of `TurnLaws`.
+-- `explore::run` meets its contract: a walk of its MIR, and what the walk asks. Each turn of the loop is a law of `TurnLaws`.
 use mathlib.Core.Path.{refl, _∙_}
 use mathlib.Core.List.{List, [], _∷_}
 use Prim.Native.Nat.{ℕ, _<_, _≤_, _+_, _-_}
@@ -21,29 +21,29 @@ use Rattle.walks.proofs.Walk.{Callee, now as here, _$_, _then_, _free_, _with_,
 use Rattle.walks.proofs.Values.{is, holds, value-room, val-arg, copies-value}
 use Rattle.walks.proofs.Slices.{ptr, kept, mut-all, owed-len, lends, slices, backs, mut-arg, shr-arg, a-lent}
 use Rattle.walks.proofs.Meets.{site, Walked, Laid, closes, Cited, cites}
-use Rattle.search.proofs.TurnLaws.{Running, running-start, running-asks, running-on, running-ended, ran}
-use Rattle.search.proofs.Types.{head-type, turn-type, kind-of, count-of}
-use Rattle.search.proofs.Jobs as jobs
-use Rattle.search.proofs.Jobs.{run as job}
-use Rattle.search.proofs.expand.Symbol as expand-def
-use Rattle.search.proofs.expand.Met as expand-thm
-use Rattle.search.proofs.turned.Symbol as turned-def
-use Rattle.search.proofs.turned.Kinds as turned-kinds
-use Rattle.search.proofs.turned.Reads as turned-reads
-use Rattle.search.proofs.turned.Met as turned-thm
-use Rattle.search.proofs.run.Key.{name}
-use Rattle.search.proofs.run.Statement.{statement}
-use Rattle.search.proofs.run.Code as code
+use Rattle.explore.proofs.TurnLaws.{Running, running-start, running-asks, running-on, running-ended, ran}
+use Rattle.explore.proofs.Types.{head-type, turn-type, kind-of, count-of}
+use Rattle.explore.proofs.Jobs as jobs
+use Rattle.explore.proofs.Jobs.{run as job}
+use Rattle.explore.proofs.expand.Symbol as expand-def
+use Rattle.explore.proofs.expand.Met as expand-thm
+use Rattle.explore.proofs.turned.Symbol as turned-def
+use Rattle.explore.proofs.turned.Kinds as turned-kinds
+use Rattle.explore.proofs.turned.Reads as turned-reads
+use Rattle.explore.proofs.turned.Met as turned-thm
+use Rattle.explore.proofs.run.Key.{name}
+use Rattle.explore.proofs.run.Statement.{statement}
+use Rattle.explore.proofs.run.Code as code
 
 abbrev u64 : Row
 u64 = sc-here (sInt w64)
 
 module _ (w : World) where
   expand : Cited job jobs.expand w code.env expand-def.name
-  expand = cites job jobs.expand w code.env expand-def.name expand-def.routine code.calls-search·expand (expand-thm.met (w .𝓤) (w .H) (w .𝓜) (w .𝓖) (w .𝓡))
+  expand = cites job jobs.expand w code.env expand-def.name expand-def.routine code.calls-explore·expand (expand-thm.met (w .𝓤) (w .H) (w .𝓜) (w .𝓖) (w .𝓡))
 
   turned : (bs : List ℕ) → Callee (site job w code.env bs) 0 turned-kinds.ps turned-kinds.r turned-reads.Asked turned-reads.Learnt turned-def.name
-  turned bs = record { known = turned-reads.known w code.env turned-def.name turned-def.routine code.calls-search·turned (turned-thm.met (w .𝓤) (w .H) (w .𝓜) (w .𝓖) (w .𝓡)) }
+  turned bs = record { known = turned-reads.known w code.env turned-def.name turned-def.routine code.calls-explore·turned (turned-thm.met (w .𝓤) (w .H) (w .𝓜) (w .𝓖) (w .𝓡)) }
 
   -- the contexts: at the loop's head, and with what an expansion said
   module _ (κs : Lfts 2) (qs : Shares 2) where

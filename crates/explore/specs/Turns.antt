@@ -1,11 +1,10 @@
--- What the parts of a search keep: cited by the contracts of inner functions, and by no promise to a caller.
+-- What the parts of an exploration keep, and what is known at its end: cited by the contracts of this crate's functions, and by no promise of the search.
 use mathlib.Core.Path.{_≡_}
 use mathlib.Core.Logic.{_⊎_, _≢_}
-use mathlib.Core.Bool.{Bool, true, false, cond}
+use mathlib.Core.Bool.{true, false}
 use mathlib.Core.Option.{none, some}
-use mathlib.Core.List.{List, _++_}
-use Prim.Native.Nat.{ℕ, _+_, _-_, _≤_, _<_}
-use lib.Dec.{eqb, leb}
+use mathlib.Core.List.{List}
+use Prim.Native.Nat.{ℕ, _+_, _≤_, _<_}
 use lib.ListN.{length, drop}
 use Rattle.meaning.specs.Sets.{_⊆_}
 use Rattle.meaning.specs.Domain.{Domain}
@@ -15,16 +14,11 @@ use Rattle.meaning.specs.Answers.{FirstInside, NoneInside}
 use Rattle.meaning.specs.Enumeration.{listing}
 use Rattle.meaning.specs.Progress.{Progress}
 use Rattle.sets.specs.Words.{setOf}
-use Rattle.sheet.specs.declared.Reading.{Reading}
-use Rattle.sheet.specs.declared.Reading.the-variants as reading-is
 use Rattle.store.specs.declared.Node.{Node}
 use Rattle.store.specs.Nodes.{nodeAt, setAt, meant}
-use Rattle.store.specs.Paths.{Path, HasPath}
-use Rattle.search.specs.Done.{Ready, answer}
-use Rattle.search.specs.declared.Verdict.the-variants.{Plan, NoPlan, Refused}
-use Rattle.search.specs.declared.Answer.{Answer}
-use Rattle.search.specs.declared.Turn.{Turn}
-use Rattle.search.specs.declared.Next.{Next}
+use Rattle.explore.specs.Ready.{Ready}
+use Rattle.explore.specs.declared.Turn.{Turn}
+use Rattle.explore.specs.declared.Next.{Next}
 
 -- the kinds of a turn's end
 abbrev pub ends-plan : ℕ
@@ -125,37 +119,3 @@ pub record Explored (D : Domain) (x g room first : ℕ) (before after : List Nod
   pub kept : Kept (t .count) before after
   pub grown : first ≤ t .count
   pub ended : Ended D x g room t after
-
--- ---- the answer
-
--- where no plan was found
-abbrev pub withoutPlan : Turn → Answer
-withoutPlan t = cond (eqb (t .kind) ends-no-plan) (answer NoPlan 0 (t .count) 0) (answer (Refused 13) 0 (t .count) 0)
-
--- for a plan of so many commands and a plan buffer of so many bytes
-abbrev pub withPlan : ℕ → ℕ → ℕ → Answer
-withPlan count long bytes = cond (leb long bytes) (answer Plan 0 count long) (answer (Refused 14) long count long)
-
--- a plan that was found can be read back
-abbrev pub CanRead : List Node → Turn → Type 0
-CanRead l t = t .kind ≡ ends-plan → (0 < t .count) × HasPath l (t .count - 1)
-
--- the answer and the plan buffer, from how the search ended
-pub record Finished (l : List Node) (t : Turn) (before after : List ℕ) (a : Answer) : Type 0 where
-  pub plan : {p : List ℕ} → t .kind ≡ ends-plan → Path l (t .count - 1) p → length p ≤ length before
-      → (a ≡ answer Plan 0 (t .count) (length p)) × (after ≡ p ++ drop (length p) before)
-  pub too-long : {p : List ℕ} → t .kind ≡ ends-plan → Path l (t .count - 1) p → length before < length p
-      → (a ≡ answer (Refused 14) (length p) (t .count) (length p)) × (after ≡ before)
-  pub no-plan : t .kind ≡ ends-no-plan → (a ≡ answer NoPlan 0 (t .count) 0) × (after ≡ before)
-  pub no-room : t .kind ≡ ends-no-room → (a ≡ answer (Refused 13) 0 (t .count) 0) × (after ≡ before)
-
--- ---- a reading taken apart
-
-abbrev pub isRefused : Reading → Bool
-isRefused (reading-is.Accepted h) = false
-isRefused (reading-is.Refused f) = true
-
--- the answer of a refusal
-abbrev pub answerOf : Reading → Answer
-answerOf (reading-is.Accepted h) = answer (Refused 0) 0 0 0
-answerOf (reading-is.Refused f) = answer (Refused (f .number)) (f .place) 0 0

@@ -14,8 +14,8 @@ use Rattle.meaning.proofs.StepLaws.{step-sends, step-stops}
 use Rattle.sets.specs.Words.{setOf}
 use Rattle.store.specs.declared.Node.{Node}
 use Rattle.store.specs.Nodes.{nodeAt, setAt, Found}
-use Rattle.search.specs.Turns.{not-sendable, seen, Fresh, NextAt}
-use Rattle.search.specs.declared.Next.{Next}
+use Rattle.explore.specs.Turns.{not-sendable, seen, Fresh, NextAt}
+use Rattle.explore.specs.declared.Next.{Next}
 
 module _ (D : Domain) (l : List Node) (count i a : ℕ) {m : Node} (e : m ≡ nodeAt l i) {b : Bool} (s : b ≡ sendable (D .follow a) (setOf (m .set)) (D .states)) where
   -- the test at the record is the test at the set of its place

@@ -1,4 +1,4 @@
--- `search::try_at` meets its contract: a walk of its MIR, and what the walk asks.
+-- `explore::try_at` meets its contract: a walk of its MIR, and what the walk asks.
 use mathlib.Core.Path.{_≡_, refl}
 use mathlib.Core.List.{List, [], _∷_}
 use Prim.Native.Nat.{ℕ, _<_, _≤_}
@@ -22,39 +22,39 @@ use Rattle.walks.proofs.Walk.{Callee, now as here, _$_, _then_, _free_, returne
 use Rattle.walks.proofs.Values.{is, holds, value-room, val-arg}
 use Rattle.walks.proofs.Slices.{ptr, kept, mut-all, owed-len, lends, slices, backs, mut-arg, shr-arg, a-lent, shares, shared-len, slices-shared, slice-room, unshares}
 use Rattle.walks.proofs.Meets.{site, Walked, Laid, closes, Cited, cites}
-use Rattle.search.proofs.TurnLaws.{tried-old, tried-full, tried-new}
-use Rattle.search.proofs.Types.{head-type, next-type, new-of, next-set-of}
-use Rattle.search.proofs.Jobs as jobs
-use Rattle.search.proofs.Jobs.{try-at as job}
-use Rattle.search.proofs.next_at.Symbol as next-def
-use Rattle.search.proofs.next_at.Met as next-thm
-use Rattle.search.proofs.turned.Symbol as turned-def
-use Rattle.search.proofs.turned.Kinds as turned-kinds
-use Rattle.search.proofs.turned.Reads as turned-reads
-use Rattle.search.proofs.turned.Met as turned-thm
-use Rattle.search.proofs.stored.Symbol as stored-def
-use Rattle.search.proofs.stored.Kinds as stored-kinds
-use Rattle.search.proofs.stored.Reads as stored-reads
-use Rattle.search.proofs.stored.Met as stored-thm
-use Rattle.search.proofs.try_at.Key.{name}
-use Rattle.search.proofs.try_at.Statement.{statement}
-use Rattle.search.proofs.try_at.Code as code
+use Rattle.explore.proofs.TurnLaws.{tried-old, tried-full, tried-new}
+use Rattle.explore.proofs.Types.{head-type, next-type, new-of, next-set-of}
+use Rattle.explore.proofs.Jobs as jobs
+use Rattle.explore.proofs.Jobs.{try-at as job}
+use Rattle.explore.proofs.next_at.Symbol as next-def
+use Rattle.explore.proofs.next_at.Met as next-thm
+use Rattle.explore.proofs.turned.Symbol as turned-def
+use Rattle.explore.proofs.turned.Kinds as turned-kinds
+use Rattle.explore.proofs.turned.Reads as turned-reads
+use Rattle.explore.proofs.turned.Met as turned-thm
+use Rattle.explore.proofs.stored.Symbol as stored-def
+use Rattle.explore.proofs.stored.Kinds as stored-kinds
+use Rattle.explore.proofs.stored.Reads as stored-reads
+use Rattle.explore.proofs.stored.Met as stored-thm
+use Rattle.explore.proofs.try_at.Key.{name}
+use Rattle.explore.proofs.try_at.Statement.{statement}
+use Rattle.explore.proofs.try_at.Code as code
 
 below : (m n : ℕ) → m ≤ n → (m ≡ n → ⊥) → m < n
 below m n p q = omega arith
 
 module _ (w : World) where
   next-at : Cited job jobs.next-at w code.env next-def.name
-  next-at = cites job jobs.next-at w code.env next-def.name next-def.routine code.calls-search·next-at (next-thm.met (w .𝓤) (w .H) (w .𝓜) (w .𝓖) (w .𝓡))
+  next-at = cites job jobs.next-at w code.env next-def.name next-def.routine code.calls-explore·next-at (next-thm.met (w .𝓤) (w .H) (w .𝓜) (w .𝓖) (w .𝓡))
 
   put : Cited job store-jobs.put w code.env put-def.name
   put = cites job store-jobs.put w code.env put-def.name put-def.routine code.calls-store·put (put-thm.met (w .𝓤) (w .H) (w .𝓜) (w .𝓖) (w .𝓡))
 
   turned : (bs : List ℕ) → Callee (site job w code.env bs) 0 turned-kinds.ps turned-kinds.r turned-reads.Asked turned-reads.Learnt turned-def.name
-  turned bs = record { known = turned-reads.known w code.env turned-def.name turned-def.routine code.calls-search·turned (turned-thm.met (w .𝓤) (w .H) (w .𝓜) (w .𝓖) (w .𝓡)) }
+  turned bs = record { known = turned-reads.known w code.env turned-def.name turned-def.routine code.calls-explore·turned (turned-thm.met (w .𝓤) (w .H) (w .𝓜) (w .𝓖) (w .𝓡)) }
 
   stored : (bs : List ℕ) → Callee (site job w code.env bs) 0 stored-kinds.ps stored-kinds.r stored-reads.Asked stored-reads.Learnt stored-def.name
-  stored bs = record { known = stored-reads.known w code.env stored-def.name stored-def.routine code.calls-search·stored (stored-thm.met (w .𝓤) (w .H) (w .𝓜) (w .𝓖) (w .𝓡)) }
+  stored bs = record { known = stored-reads.known w code.env stored-def.name stored-def.routine code.calls-explore·stored (stored-thm.met (w .𝓤) (w .H) (w .𝓜) (w .𝓖) (w .𝓡)) }
 
   -- the context with what the command gave
   module _ (κs : Lfts 2) (qs : Shares 2) where

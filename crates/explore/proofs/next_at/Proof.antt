@@ -1,4 +1,4 @@
--- `search::next_at` meets its contract: a walk of its MIR, and what the walk asks.
+-- `explore::next_at` meets its contract: a walk of its MIR, and what the walk asks.
 use mathlib.Core.Path.{refl}
 use mathlib.Core.List.{List, [], _∷_}
 use Prim.Native.Nat.{ℕ}
@@ -32,20 +32,20 @@ use Rattle.walks.proofs.Walk.{Callee, now as here, _$_, _then_, _free_, returne
 use Rattle.walks.proofs.Values.{is, holds, value-room, val-arg}
 use Rattle.walks.proofs.Slices.{shr-arg, a-lent}
 use Rattle.walks.proofs.Meets.{site, Walked, Laid, closes, Cited, cites}
-use Rattle.search.proofs.NextLaws.{next-none, next-set}
-use Rattle.search.proofs.Types.{head-type}
-use Rattle.search.proofs.Jobs.{next-at as job}
-use Rattle.search.proofs.looked_up.Symbol as looked-def
-use Rattle.search.proofs.looked_up.Kinds as looked-kinds
-use Rattle.search.proofs.looked_up.Reads as looked-reads
-use Rattle.search.proofs.looked_up.Met as looked-thm
-use Rattle.search.proofs.nothing_new.Symbol as nothing-def
-use Rattle.search.proofs.nothing_new.Kinds as nothing-kinds
-use Rattle.search.proofs.nothing_new.Reads as nothing-reads
-use Rattle.search.proofs.nothing_new.Met as nothing-thm
-use Rattle.search.proofs.next_at.Key.{name}
-use Rattle.search.proofs.next_at.Statement.{statement}
-use Rattle.search.proofs.next_at.Code as code
+use Rattle.explore.proofs.NextLaws.{next-none, next-set}
+use Rattle.explore.proofs.Types.{head-type}
+use Rattle.explore.proofs.Jobs.{next-at as job}
+use Rattle.explore.proofs.looked_up.Symbol as looked-def
+use Rattle.explore.proofs.looked_up.Kinds as looked-kinds
+use Rattle.explore.proofs.looked_up.Reads as looked-reads
+use Rattle.explore.proofs.looked_up.Met as looked-thm
+use Rattle.explore.proofs.nothing_new.Symbol as nothing-def
+use Rattle.explore.proofs.nothing_new.Kinds as nothing-kinds
+use Rattle.explore.proofs.nothing_new.Reads as nothing-reads
+use Rattle.explore.proofs.nothing_new.Met as nothing-thm
+use Rattle.explore.proofs.next_at.Key.{name}
+use Rattle.explore.proofs.next_at.Statement.{statement}
+use Rattle.explore.proofs.next_at.Code as code
 
 abbrev u64 : Row
 u64 = sc-here (sInt w64)
@@ -64,10 +64,10 @@ module _ (w : World) where
   image bs = record { known = image-reads.known w code.env image-def.name image-def.routine code.calls-follow·image (image-thm.met (w .𝓤) (w .H) (w .𝓜) (w .𝓖) (w .𝓡)) }
 
   looked-up : (bs : List ℕ) → Callee (site job w code.env bs) 0 looked-kinds.ps looked-kinds.r looked-reads.Asked looked-reads.Learnt looked-def.name
-  looked-up bs = record { known = looked-reads.known w code.env looked-def.name looked-def.routine code.calls-search·looked-up (looked-thm.met (w .𝓤) (w .H) (w .𝓜) (w .𝓖) (w .𝓡)) }
+  looked-up bs = record { known = looked-reads.known w code.env looked-def.name looked-def.routine code.calls-explore·looked-up (looked-thm.met (w .𝓤) (w .H) (w .𝓜) (w .𝓖) (w .𝓡)) }
 
   nothing-new : (bs : List ℕ) → Callee (site job w code.env bs) 0 nothing-kinds.ps nothing-kinds.r nothing-reads.Asked nothing-reads.Learnt nothing-def.name
-  nothing-new bs = record { known = nothing-reads.known w code.env nothing-def.name nothing-def.routine code.calls-search·nothing-new (nothing-thm.met (w .𝓤) (w .H) (w .𝓜) (w .𝓖) (w .𝓡)) }
+  nothing-new bs = record { known = nothing-reads.known w code.env nothing-def.name nothing-def.routine code.calls-explore·nothing-new (nothing-thm.met (w .𝓤) (w .H) (w .𝓜) (w .𝓖) (w .𝓡)) }
 
   -- the contexts: with the record, with the test, with the set, and with its place
   module _ (κs : Lfts 2) (qs : Shares 2) where

@@ -1,4 +1,4 @@
--- `search::expand` meets its contract: a walk of its MIR, and what the walk asks. Each turn of the loop is a law of `TurnLaws`.
+-- `explore::expand` meets its contract: a walk of its MIR, and what the walk asks. Each turn of the loop is a law of `TurnLaws`.
 use mathlib.Core.Path.{refl, _∙_}
 use mathlib.Core.List.{List, [], _∷_}
 use Prim.Native.Nat.{ℕ, _<_, _≤_, _+_, _-_}
@@ -21,29 +21,29 @@ use Rattle.walks.proofs.Walk.{Callee, now as here, _$_, _then_, _free_, _with_,
 use Rattle.walks.proofs.Values.{is, holds, value-room, val-arg, copies-value}
 use Rattle.walks.proofs.Slices.{ptr, kept, mut-all, owed-len, lends, slices, backs, mut-arg, shr-arg, a-lent}
 use Rattle.walks.proofs.Meets.{site, Walked, Laid, closes, Cited, cites}
-use Rattle.search.proofs.TurnLaws.{Expanding, expanding-start, expanding-asks, expanding-on, expanding-ended, expanded}
-use Rattle.search.proofs.Types.{head-type, turn-type, commands-of, kind-of, count-of}
-use Rattle.search.proofs.Jobs as jobs
-use Rattle.search.proofs.Jobs.{expand as job}
-use Rattle.search.proofs.try_at.Symbol as try-def
-use Rattle.search.proofs.try_at.Met as try-thm
-use Rattle.search.proofs.turned.Symbol as turned-def
-use Rattle.search.proofs.turned.Kinds as turned-kinds
-use Rattle.search.proofs.turned.Reads as turned-reads
-use Rattle.search.proofs.turned.Met as turned-thm
-use Rattle.search.proofs.expand.Key.{name}
-use Rattle.search.proofs.expand.Statement.{statement}
-use Rattle.search.proofs.expand.Code as code
+use Rattle.explore.proofs.TurnLaws.{Expanding, expanding-start, expanding-asks, expanding-on, expanding-ended, expanded}
+use Rattle.explore.proofs.Types.{head-type, turn-type, commands-of, kind-of, count-of}
+use Rattle.explore.proofs.Jobs as jobs
+use Rattle.explore.proofs.Jobs.{expand as job}
+use Rattle.explore.proofs.try_at.Symbol as try-def
+use Rattle.explore.proofs.try_at.Met as try-thm
+use Rattle.explore.proofs.turned.Symbol as turned-def
+use Rattle.explore.proofs.turned.Kinds as turned-kinds
+use Rattle.explore.proofs.turned.Reads as turned-reads
+use Rattle.explore.proofs.turned.Met as turned-thm
+use Rattle.explore.proofs.expand.Key.{name}
+use Rattle.explore.proofs.expand.Statement.{statement}
+use Rattle.explore.proofs.expand.Code as code
 
 abbrev u64 : Row
 u64 = sc-here (sInt w64)
 
 module _ (w : World) where
   try-at : Cited job jobs.try-at w code.env try-def.name
-  try-at = cites job jobs.try-at w code.env try-def.name try-def.routine code.calls-search·try-at (try-thm.met (w .𝓤) (w .H) (w .𝓜) (w .𝓖) (w .𝓡))
+  try-at = cites job jobs.try-at w code.env try-def.name try-def.routine code.calls-explore·try-at (try-thm.met (w .𝓤) (w .H) (w .𝓜) (w .𝓖) (w .𝓡))
 
   turned : (bs : List ℕ) → Callee (site job w code.env bs) 0 turned-kinds.ps turned-kinds.r turned-reads.Asked turned-reads.Learnt turned-def.name
-  turned bs = record { known = turned-reads.known w code.env turned-def.name turned-def.routine code.calls-search·turned (turned-thm.met (w .𝓤) (w .H) (w .𝓜) (w .𝓖) (w .𝓡)) }
+  turned bs = record { known = turned-reads.known w code.env turned-def.name turned-def.routine code.calls-explore·turned (turned-thm.met (w .𝓤) (w .H) (w .𝓜) (w .𝓖) (w .𝓡)) }
 
   -- the contexts: at the loop's head, and with what a try said
   module _ (κs : Lfts 2) (qs : Shares 2) where
