@@ -10,11 +10,12 @@ use borrow.Author.Tests.{le-leb, lt-leb, eq-eqb, ne-eqb}
 use Rattle.store.specs.declared.Node.{Node}
 use Rattle.store.specs.Paths.{ReadBack}
 use Rattle.store.proofs.PathLaws.{path-fun}
+use Rattle.explore.specs.Turns.{ends-plan, ends-no-plan}
 use Rattle.search.specs.Done.{answer}
-use Rattle.search.specs.Turns.{ends-plan, ends-no-plan, withPlan, withoutPlan, Finished}
+use Rattle.search.specs.Endings.{withPlan, withoutPlan, Finished}
 use Rattle.search.specs.declared.Verdict.the-variants.{Plan, NoPlan, Refused}
 use Rattle.search.specs.declared.Answer.{Answer}
-use Rattle.search.specs.declared.Turn.{Turn}
+use Rattle.explore.specs.declared.Turn.{Turn}
 
 pub plan-fits : (count long bytes : ℕ) → long ≤ bytes → withPlan count long bytes ≡ answer Plan 0 count long
 plan-fits count long bytes h = ap (λ (b : Bool). cond b (answer Plan 0 count long) (answer (Refused 14) long count long)) (le-leb long bytes h)

@@ -22,11 +22,13 @@ use Rattle.meaning.proofs.ProgressLaws.{place-0}
 use Rattle.store.specs.declared.Node.{Node}
 use Rattle.store.specs.Nodes.{nothing, nodeAt, meant}
 use Rattle.store.specs.Paths.{Path, start, step}
-use Rattle.search.specs.Done.{Ready, searchedOf, answer, SearchDone}
-use Rattle.search.specs.Turns.{ends-plan, ends-no-plan, ends-no-room, Stored, Ended, Explored, Finished, CanRead, LastInside}
+use Rattle.explore.specs.Ready.{Ready}
+use Rattle.explore.specs.Turns.{ends-plan, ends-no-plan, ends-no-room, Stored, Ended, Explored, LastInside}
+use Rattle.search.specs.Done.{searchedOf, answer, SearchDone}
+use Rattle.search.specs.Endings.{Finished, CanRead}
 use Rattle.search.specs.declared.Verdict.the-variants.{Plan, NoPlan, Refused}
 use Rattle.search.specs.declared.Answer.{Answer}
-use Rattle.search.specs.declared.Turn.{Turn}
+use Rattle.explore.specs.declared.Turn.{Turn}
 
 -- ---- the way back
 

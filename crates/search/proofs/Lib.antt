@@ -1,13 +1,10 @@
-pub mod TurnLaws
 pub mod EndLaws
 pub mod AnswerLaws
-pub mod NextLaws
 pub mod SheetLaws
 pub mod Unique
 pub mod Means
 pub mod Rooms
 pub mod Impostors
-pub mod Literals
 pub mod Types
 pub mod Jobs
 pub mod Told

@@ -21,7 +21,8 @@ use Rattle.sheet.specs.declared.Head.{Head}
 use Rattle.sheet.specs.declared.Reading.the-variants.{Accepted}
 use Rattle.sheet.proofs.DomainLaws.{domain-states}
 use Rattle.store.specs.declared.Node.{Node}
-use Rattle.search.specs.Done.{verdictOf, Ready, SearchDone, SheetSearched}
+use Rattle.explore.specs.Ready.{Ready}
+use Rattle.search.specs.Done.{verdictOf, SearchDone, SheetSearched}
 use Rattle.search.specs.declared.Verdict.{Verdict}
 use Rattle.search.specs.declared.Verdict.the-variants.{Plan, NoPlan, Refused}
 use Rattle.search.specs.declared.Answer.{Answer}

@@ -22,7 +22,8 @@ use Rattle.sheet.specs.declared.Head.{Head}
 use Rattle.sheet.specs.declared.Reading.the-variants.{Accepted}
 use Rattle.store.specs.declared.Node.{Node}
 use Rattle.store.specs.Nodes.{meant}
-use Rattle.search.specs.Done.{Ready, SearchDone, SheetSearched}
+use Rattle.explore.specs.Ready.{Ready}
+use Rattle.search.specs.Done.{SearchDone, SheetSearched}
 use Rattle.search.specs.declared.Verdict.the-variants.{Refused}
 use Rattle.search.specs.declared.Answer.{Answer}
 use Rattle.search.proofs.SheetLaws.{sheet-ready}

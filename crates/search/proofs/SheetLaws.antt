@@ -16,8 +16,9 @@ use Rattle.sheet.proofs.DomainLaws.{domain-well-formed, initial-start}
 use Rattle.follow.specs.Following.{domainBy}
 use Rattle.follow.proofs.DomainLaws.{domain-is}
 use Rattle.store.specs.declared.Node.{Node}
-use Rattle.search.specs.Turns.{isRefused, answerOf}
-use Rattle.search.specs.Done.{Ready, SearchDone, SheetRefused, SheetSearched}
+use Rattle.explore.specs.Ready.{Ready}
+use Rattle.search.specs.Endings.{isRefused, answerOf}
+use Rattle.search.specs.Done.{SearchDone, SheetRefused, SheetSearched}
 use Rattle.search.specs.declared.Answer.{Answer}
 
 accepted-is : (l : List ℕ) {h : Head} (r : Reading) → r ≡ reading l → isRefused r ≡ false → h ≡ shownHead r → reading l ≡ Accepted h

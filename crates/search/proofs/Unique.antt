@@ -17,7 +17,8 @@ use Rattle.sheet.specs.declared.Reading.{Reading}
 use Rattle.sheet.specs.declared.Reading.the-variants as reading-is
 use Rattle.store.specs.declared.Node.{Node}
 use Rattle.store.specs.Nodes.{meant}
-use Rattle.search.specs.Done.{verdictOf, searchedOf, Ready, SearchDone, SheetSearched, SearchedHere}
+use Rattle.explore.specs.Ready.{Ready}
+use Rattle.search.specs.Done.{verdictOf, searchedOf, SearchDone, SheetSearched, SearchedHere}
 use Rattle.search.specs.declared.Verdict.{Verdict}
 use Rattle.search.specs.declared.Verdict.the-variants.{Plan, NoPlan, Refused}
 use Rattle.search.specs.declared.Answer.{Answer}

@@ -1,9 +1,9 @@
 -- What a search of a sheet answers, and what the store and the plan buffer hold after it: the promise of the public functions.
 use mathlib.Core.Path.{_≡_}
 use mathlib.Core.List.{List, _++_, map}
-use Prim.Native.Nat.{ℕ, _≤_}
+use Prim.Native.Nat.{ℕ}
 use lib.ListN.{length, take, drop, replicate}
-use Rattle.meaning.specs.Domain.{Domain, WellFormed, Start}
+use Rattle.meaning.specs.Domain.{Domain}
 use Rattle.meaning.specs.Listing as listing
 use Rattle.meaning.specs.Answers as meaning
 use Rattle.meaning.specs.Answers.{Searched, Searches, room}
@@ -31,12 +31,6 @@ searchedOf a written = record { verdict = verdictOf (a .verdict); place = a .pla
 
 abbrev pub answer : Verdict → ℕ → ℕ → ℕ → Answer
 answer v place count long = record { verdict = v; place = place; count = count; length = long }
-
--- what the engine asks of the domain and the start set: an accepted sheet's domain and initial set are so
-pub record Ready (D : Domain) (x : ℕ) : Type 0 where
-  pub well-formed : WellFormed D
-  pub start : Start D x
-  pub few : D .commands ≤ 32
 
 -- the search of a domain from the set x to the goal g: the answer a, the store and the plan buffer, each before and after
 pub record SearchDone (D : Domain) (x g : ℕ) (store store′ : List Node) (plan plan′ : List ℕ) (a : Answer) : Type 0 where

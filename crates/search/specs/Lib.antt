@@ -1,2 +1,2 @@
 pub mod Done
-pub mod Turns
+pub mod Endings

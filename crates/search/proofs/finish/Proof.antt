@@ -15,13 +15,13 @@ use Rattle.store.proofs.Types.{byte, node-type}
 use Rattle.store.proofs.Jobs as store-jobs
 use Rattle.store.proofs.read_back.Symbol as back-def
 use Rattle.store.proofs.read_back.Met as back-thm
+use Rattle.explore.proofs.Types.{turn-type, kind-of, count-of}
 use Rattle.walks.proofs.Walk.{Callee, now as here, _$_, _then_, _free_, returned, skipped, joined, branches, begins, ends, forgets, n64, flag, fresh, over, same, part, lit, puts, does, gone, none, num, num-of, calls}
 use Rattle.walks.proofs.Values.{holds, value-room, val-arg}
 use Rattle.walks.proofs.Slices.{ptr, kept, mut-len, mut-all, owed-len, lends, slices, backs, mut-arg, shr-arg, a-lent}
 use Rattle.walks.proofs.Meets.{site, Walked, Laid, closes, Cited, cites}
-use Rattle.search.specs.Turns.{withPlan}
+use Rattle.search.specs.Endings.{withPlan}
 use Rattle.search.proofs.AnswerLaws.{finished-without, finished-with}
-use Rattle.search.proofs.Types.{turn-type, kind-of, count-of}
 use Rattle.search.proofs.Jobs.{finish as job}
 use Rattle.search.proofs.without_plan.Symbol as without-def
 use Rattle.search.proofs.without_plan.Kinds as without-kinds

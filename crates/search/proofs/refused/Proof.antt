@@ -1,6 +1,6 @@
 -- `search::refused` meets its contract, by cases on the reading.
 use mathlib.Core.Path.{sym, ap, _∙_}
-use Rattle.search.specs.Turns.{answerOf}
+use Rattle.search.specs.Endings.{answerOf}
 use borrow.Author.Needs.{needs}
 use Rattle.search.proofs.refused.Statement.{statement}
 use Rattle.search.proofs.refused.Tie as tie

@@ -16,13 +16,14 @@ use Rattle.sheet.proofs.read.Kinds as read-kinds
 use Rattle.sheet.proofs.read.Reads as read-reads
 use Rattle.sheet.proofs.read.Met as read-thm
 use Rattle.store.proofs.Types.{byte, node-type}
+use Rattle.explore.proofs.Types.{head-type}
 use Rattle.walks.proofs.Walk.{Callee, now as here, _$_, _then_, _free_, returned, skipped, joined, branches, begins, ends, forgets, flag, fresh, over, same, part, gone, none, num-of, calls}
 use Rattle.walks.proofs.Values.{is, holds, value-room, val-arg}
 use Rattle.walks.proofs.Slices.{ptr, kept, mut-all, owed-len, lends, slices, backs, mut-arg, shr-arg, a-lent}
 use Rattle.walks.proofs.Meets.{site, Walked, Laid, closes, Cited, cites}
-use Rattle.search.specs.Turns.{isRefused}
+use Rattle.search.specs.Endings.{isRefused}
 use Rattle.search.proofs.SheetLaws.{engine-ready, engine-done, sheet-refused}
-use Rattle.search.proofs.Types.{head-type, reading-type, initial-of, goal-of}
+use Rattle.search.proofs.Types.{reading-type, initial-of, goal-of}
 use Rattle.search.proofs.Jobs as jobs
 use Rattle.search.proofs.Jobs.{search as job}
 use Rattle.search.proofs.search_from.Symbol as from-def

@@ -9,16 +9,17 @@ use borrow.Rule.Scalar.{After}
 use borrow.Fn.Function.{Γin}
 use borrow.Fn.World.{World}
 use Rattle.store.proofs.Types.{byte, node-type}
+use Rattle.explore.proofs.Types.{head-type, turn-type}
+use Rattle.explore.proofs.Jobs as explore-jobs
+use Rattle.explore.proofs.explore.Symbol as explore-def
+use Rattle.explore.proofs.explore.Met as explore-thm
 use Rattle.walks.proofs.Walk.{now as here, _$_, _then_, _free_, returned, begins, ends, forgets, n64, fresh, over, same, part, gone, none, num, calls}
 use Rattle.walks.proofs.Values.{is, holds, value-room, val-arg}
 use Rattle.walks.proofs.Slices.{ptr, kept, mut-all, owed-len, lends, slices, backs, mut-arg, shr-arg, a-lent, shares, shared-len, slices-shared, slice-room, unshares}
 use Rattle.walks.proofs.Meets.{Walked, Laid, closes, Cited, cites}
 use Rattle.search.proofs.EndLaws.{can-read, done}
-use Rattle.search.proofs.Types.{head-type, turn-type}
 use Rattle.search.proofs.Jobs as jobs
 use Rattle.search.proofs.Jobs.{search-from as job}
-use Rattle.search.proofs.explore.Symbol as explore-def
-use Rattle.search.proofs.explore.Met as explore-thm
 use Rattle.search.proofs.finish.Symbol as finish-def
 use Rattle.search.proofs.finish.Met as finish-thm
 use Rattle.search.proofs.search_from.Key.{name}
@@ -26,8 +27,8 @@ use Rattle.search.proofs.search_from.Statement.{statement}
 use Rattle.search.proofs.search_from.Code as code
 
 module _ (w : World) where
-  explore : Cited job jobs.explore w code.env explore-def.name
-  explore = cites job jobs.explore w code.env explore-def.name explore-def.routine code.calls-search·explore (explore-thm.met (w .𝓤) (w .H) (w .𝓜) (w .𝓖) (w .𝓡))
+  explore : Cited job explore-jobs.explore w code.env explore-def.name
+  explore = cites job explore-jobs.explore w code.env explore-def.name explore-def.routine code.calls-explore·explore (explore-thm.met (w .𝓤) (w .H) (w .𝓜) (w .𝓖) (w .𝓡))
 
   finish : Cited job jobs.finish w code.env finish-def.name
   finish = cites job jobs.finish w code.env finish-def.name finish-def.routine code.calls-search·finish (finish-thm.met (w .𝓤) (w .H) (w .𝓜) (w .𝓖) (w .𝓡))

@@ -49,7 +49,7 @@ module _ (w : World) where
       puts 4 (sInt w64) (lit w64 0 tt) fresh refl (λ u. refl) (λ u. tt) then
       joined _
       (loops {Vs = ℕ} (λ i u. (u .0, (u .1 .0, (u .1 .1 .0, (u .1 .1 .1 .0, (i, u .1 .1 .1 .1 .1))))))
-      (λ u i. (i ≤ u .1 .1 .0) × None (u .1 .0 .now) (u .1 .1 .1 .0) i)
+      (λ u i. None (u .1 .0 .now) (u .1 .1 .1 .0) i)
       (λ u i. u .1 .1 .0 - i) (
       does 6 sBool (lt unsigned) (at 4 n64 refl) (at 2 n64 refl) fresh refl (λ u. refl) (λ u. tt) then
       joined _ (branches 6 flag refl (skipped tt) (gone 6 (over sBool) free left 1 tt)) (
@@ -70,7 +70,7 @@ module _ (w : World) where
       let l : List Node = a .0 .now in
       let n : ℕ = a .1 .0 in
       let y : ℕ = a .1 .1 .0 in (
-        (0, refl, (omega arith, λ k h e. omega (arith, h))),
+        (0, refl, λ k h e. omega (arith, h)),
         λ i inv. (
           tt,
           (
@@ -79,12 +79,12 @@ module _ (w : World) where
               λ q. let e : q .1 .set ≡ setAt l i = ap (λ (m : Node). m .set) (q .5) in (
                 tt,
                 (
-                  (λ f. ((refl, (tt, (tt, tt))), record { within = inv .0; here = λ k. sym e ∙ eqb-true _ y f; nowhere = λ z. absurd (omega (arith, z, h)) })),
-                  (λ f. (record { fits = omega (arith, good .0 .0, pre, h) }, (n - (i + 1), omega arith, (i + 1, refl, (omega arith, none-more l y i (inv .1) (λ z. eqb-false _ y f (e ∙ z))), refl)))),
+                  (λ f. ((refl, (tt, (tt, tt))), record { within = omega (arith, h); here = λ k. sym e ∙ eqb-true _ y f; nowhere = λ z. absurd (omega (arith, z, h)) })),
+                  (λ f. (record { fits = omega (arith, good .0 .0, pre, h) }, (n - (i + 1), omega arith, (i + 1, refl, none-more l y i inv (λ z. eqb-false _ y f (e ∙ z)), refl)))),
                 ),
               ),
             )),
-            (λ f. ((refl, (tt, (tt, tt))), let h : n ≤ i = ltb-false i n f in record { within = omega arith; here = λ k. absurd (omega (arith, k)); nowhere = λ z k b. inv .1 k (omega (arith, b, h)) })),
+            (λ f. ((refl, (tt, (tt, tt))), let h : n ≤ i = ltb-false i n f in record { within = omega arith; here = λ k. absurd (omega (arith, k)); nowhere = λ z k b. inv k (omega (arith, b, h)) })),
           ),
         ),
       )

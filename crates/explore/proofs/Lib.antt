@@ -1,0 +1,5 @@
+pub mod TurnLaws
+pub mod NextLaws
+pub mod Literals
+pub mod Types
+pub mod Jobs

@@ -1,0 +1,152 @@
+-- `explore::explore` meets its contract: a walk of its MIR, and what the walk asks.
+use mathlib.Core.Path.{_≡_, refl, _∙_}
+use mathlib.Core.List.{List, [], _∷_}
+use Prim.Native.Nat.{ℕ, _<_, _≤_}
+use native.Mathlib.Omega.{arith}
+use lib.Dec.{lit<}
+use lib.ListN.{length}
+use package.mir.Syntax.{w64, w8, eq, ne, field, named, erased, mut}
+use contract.Lifetimes.{Lfts, Shares}
+use contract.Running.{tablesOf}
+use borrow.Table.Row.{Cx, sInt, sBool, sUnit, lease}
+use borrow.Table.Rows.{sc-here}
+use borrow.Rule.Scalar.{After}
+use borrow.Author.Tests.{eqb-true, eqb-false, not-true, not-false}
+use borrow.Fn.Function.{Γin}
+use borrow.Fn.World.{World}
+use Rattle.store.specs.declared.Node.{Node}
+use Rattle.store.proofs.Types.{byte, node-type}
+use Rattle.store.proofs.Jobs as store-jobs
+use Rattle.store.proofs.put.Symbol as put-def
+use Rattle.store.proofs.put.Met as put-thm
+use Rattle.walks.proofs.Walk.{Callee, now as here, _$_, _then_, _free_, returned, skipped, joined, branches, begins, ends, forgets, n64, flag, fresh, over, same, at, part, lit, puts, does, gone, none, num, num-lit, calls}
+use Rattle.walks.proofs.Values.{is, holds, value-room, val-arg, copies-value}
+use Rattle.walks.proofs.Slices.{ptr, kept, mut-len, mut-all, owed-len, lends, slices, backs, mut-arg, shr-arg, a-lent}
+use Rattle.walks.proofs.Meets.{site, Walked, Laid, closes, Cited, cites}
+use Rattle.explore.proofs.TurnLaws.{explored-in, no-place, started-ended, started-asks, started-ran}
+use Rattle.explore.proofs.Literals.{num-top}
+use Rattle.explore.proofs.Types.{head-type, turn-type, kind-of}
+use Rattle.explore.proofs.Jobs as jobs
+use Rattle.explore.proofs.Jobs.{explore as job}
+use Rattle.explore.proofs.run.Symbol as run-def
+use Rattle.explore.proofs.run.Met as run-thm
+use Rattle.explore.proofs.room_of.Symbol as room-def
+use Rattle.explore.proofs.room_of.Kinds as room-kinds
+use Rattle.explore.proofs.room_of.Reads as room-reads
+use Rattle.explore.proofs.room_of.Met as room-thm
+use Rattle.explore.proofs.turned.Symbol as turned-def
+use Rattle.explore.proofs.turned.Kinds as turned-kinds
+use Rattle.explore.proofs.turned.Reads as turned-reads
+use Rattle.explore.proofs.turned.Met as turned-thm
+use Rattle.explore.proofs.stored.Symbol as stored-def
+use Rattle.explore.proofs.stored.Kinds as stored-kinds
+use Rattle.explore.proofs.stored.Reads as stored-reads
+use Rattle.explore.proofs.stored.Met as stored-thm
+use Rattle.explore.proofs.explore.Key.{name}
+use Rattle.explore.proofs.explore.Statement.{statement}
+use Rattle.explore.proofs.explore.Code as code
+
+some : (n : ℕ) → (n ≡ 0 → ⊥) → 0 < n
+some n p = omega arith
+
+module _ (w : World) where
+  put : Cited job store-jobs.put w code.env put-def.name
+  put = cites job store-jobs.put w code.env put-def.name put-def.routine code.calls-store·put (put-thm.met (w .𝓤) (w .H) (w .𝓜) (w .𝓖) (w .𝓡))
+
+  run : Cited job jobs.run w code.env run-def.name
+  run = cites job jobs.run w code.env run-def.name run-def.routine code.calls-explore·run (run-thm.met (w .𝓤) (w .H) (w .𝓜) (w .𝓖) (w .𝓡))
+
+  room-of : (bs : List ℕ) → Callee (site job w code.env bs) 0 room-kinds.ps room-kinds.r room-reads.Asked room-reads.Learnt room-def.name
+  room-of bs = record { known = room-reads.known w code.env room-def.name room-def.routine code.calls-explore·room-of (room-thm.met (w .𝓤) (w .H) (w .𝓜) (w .𝓖) (w .𝓡)) }
+
+  turned : (bs : List ℕ) → Callee (site job w code.env bs) 0 turned-kinds.ps turned-kinds.r turned-reads.Asked turned-reads.Learnt turned-def.name
+  turned bs = record { known = turned-reads.known w code.env turned-def.name turned-def.routine code.calls-explore·turned (turned-thm.met (w .𝓤) (w .H) (w .𝓜) (w .𝓖) (w .𝓡)) }
+
+  stored : (bs : List ℕ) → Callee (site job w code.env bs) 0 stored-kinds.ps stored-kinds.r stored-reads.Asked stored-reads.Learnt stored-def.name
+  stored bs = record { known = stored-reads.known w code.env stored-def.name stored-def.routine code.calls-explore·stored (stored-thm.met (w .𝓤) (w .H) (w .𝓜) (w .𝓖) (w .𝓡)) }
+
+  -- the contexts: with the room, and with the goal test
+  module _ (κs : Lfts 2) (qs : Shares 2) where
+    abbrev Has-room : Cx
+    Has-room = After (Γin 2 (job .ps) (job .r) (job .xs) 1 κs qs) 6 (sc-here (sInt w64))
+
+    abbrev Has-t : Cx
+    Has-t = After Has-room 7 (is turn-type)
+
+  abbrev walk : Walked job w code.env code.function
+  walk κs qs bs =
+      puts 8 (sInt w64) (part 5 (field 1 ∷ []) (mut-len (node-type .R) (named 1) 1) refl) fresh refl (λ u. refl) (λ u. tt) then
+      calls (room-of bs) [] 6 (num 8 n64 refl none) fresh tt refl then
+      gone 8 (over (sInt w64)) free here (Has-room κs qs) $
+      does 9 sBool eq (at 6 n64 refl) (lit w64 0 tt) fresh refl (λ u. refl) (λ u. tt) then
+      joined (Has-room κs qs) (branches 9 flag refl (
+      gone 9 (over sBool) free here (Has-room κs qs) $
+      calls (turned bs) [] 0 (num-lit 2 tt (num-lit 0 tt none)) fresh tt refl then
+      gone 1 (value-room head-type) free gone 3 (over (sInt w64)) free gone 4 (over (sInt w64)) free gone 6 (over (sInt w64)) free
+      returned tt) (gone 9 (over sBool) free skipped tt)) (
+      -- put(&mut *store, 0, start, 0, 255)
+      begins 2 _ free
+      lends (node-type .R) 5 11 1 2 (named 1) same fresh refl tt refl refl then
+      slices (node-type .R) 11 12 2 (ptr (node-type .R) erased mut) same fresh (part 5 (field 1 ∷ []) (owed-len (node-type .R) (named 1) 1 2 (lease (κs .1 .0) (qs .1 .0))) refl) refl refl then
+      calls (put bs) (2 ∷ []) 10 (mut-arg (node-type .R) 0 tt 12 same (mut-all (node-type .R) erased 2) refl (num-lit 0 tt (num 3 n64 refl (num-lit 0 tt (num-top 1 tt (lit< tt) none))))) fresh (tt, tt) refl then
+      gone 10 (over sUnit) free ends 2 refl free backs (node-type .R) 12 5 1 2 (named 1) (lease (κs .1 .0) (qs .1 .0)) same same refl refl free forgets 2 refl free here (Has-room κs qs) $
+      -- t = stored(start, goal, 1)
+      calls (stored bs) [] 7 (num 3 n64 refl (num 4 n64 refl (num-lit 1 tt none))) fresh tt refl then here (Has-t κs qs) $
+      does 9 sBool ne (part 7 (field 0 ∷ []) kind-of refl) (lit w8 3 tt) fresh refl (λ u. refl) (λ u. tt) then
+      joined (Has-room κs qs) (branches 9 flag refl (
+      gone 9 (over sBool) free
+      copies-value turn-type 7 0 (holds turn-type) fresh refl refl then
+      gone 1 (value-room head-type) free gone 3 (over (sInt w64)) free gone 4 (over (sInt w64)) free gone 6 (over (sInt w64)) free gone 7 (value-room turn-type) free
+      returned tt) (gone 9 (over sBool) free gone 7 (value-room turn-type) free skipped tt)) (
+      -- run(head, sheet, goal, store, room)
+      begins 2 _ free
+      lends (node-type .R) 5 13 1 2 (named 1) same fresh refl tt refl refl then
+      slices (node-type .R) 13 14 2 (ptr (node-type .R) erased mut) same fresh (part 5 (field 1 ∷ []) (owed-len (node-type .R) (named 1) 1 2 (lease (κs .1 .0) (qs .1 .0))) refl) refl refl then
+      calls (run bs) (0 ∷ 2 ∷ []) 0 (val-arg head-type 1 [] (holds head-type) refl (shr-arg byte 0 tt 2 (a-lent byte (named 0) 0) refl (num 4 n64 refl (mut-arg (node-type .R) 1 tt 14 same (mut-all (node-type .R) erased 2) refl (num 6 n64 refl none))))) fresh (tt, (tt, tt)) refl then
+      ends 2 refl free backs (node-type .R) 14 5 1 2 (named 1) (lease (κs .1 .0) (qs .1 .0)) same same refl refl free forgets 2 refl free
+      gone 1 (value-room head-type) free gone 3 (over (sInt w64)) free gone 4 (over (sInt w64)) free gone 6 (over (sInt w64)) free
+      returned tt))
+
+  laid : Laid job w code.env code.function walk
+  laid κs qs a good pre bs =
+      let l : List Node = a .1 .1 .1 .1 .0 .now in
+      let g : ℕ = a .1 .1 .1 .0 in (
+        (λ _. tt),
+        λ m.
+            let room : ℕ = m .1 in
+            let there : room ≤ length l = omega (arith, m .5) in
+            let most : room ≤ 65536 = omega (arith, m .5) in (
+              tt,
+              (
+                (λ none. ((λ _. tt), λ r. ((tt, (refl, (tt, (tt, (refl, tt))))), explored-in (m .5) (no-place pre g room l there (eqb-true room 0 none) (r .5))))),
+                (λ there-is.
+                    let pos : 0 < room = some room (eqb-false room 0 there-is) in
+                    λ γ. (
+                      refl,
+                      (
+                        (λ _. omega (arith, pos, there)),
+                        λ q. (
+                          refl,
+                          λ e. (
+                            (λ _. tt),
+                            λ t. (
+                              tt,
+                              (
+                                (λ stop. ((tt, (refl, (tt, (tt, (kept (a .1 .1 .1 .1 .0) e, tt))))), explored-in (m .5) (started-ended pre g room l there pos (q .5) (t .5) (eqb-false (t .1 .kind) 3 (not-true _ stop))))),
+                                (λ on.
+                                    let z : t .1 .kind ≡ 3 = eqb-true (t .1 .kind) 3 (not-false _ on) in
+                                    λ γ₂. (refl, ((λ _. started-asks pre g room l there pos (q .5) (t .5) most z), λ p. (refl, λ e₂. ((tt, (refl, (tt, (tt, (kept (a .1 .1 .1 .1 .0) (e₂ ∙ e), tt))))), explored-in (m .5) (started-ran pre g room l there pos (q .5) (t .5) most z (p .5))))))),
+                              ),
+                            ),
+                          ),
+                        ),
+                      ),
+                    )),
+              ),
+            ),
+      )
+
+pub explore-spec : {M : Type 1} → statement M
+unfolding code.routine tablesOf
+explore-spec {M} 𝓤 H 𝓜 𝓖 𝓡 =
+    let w : World = record { M = M; 𝓤 = 𝓤; H = H; 𝓜 = 𝓜; 𝓖 = 𝓖; 𝓡 = 𝓡 } in closes job w code.env name code.function (walk w) (laid w) (code.unfolded 𝓤 H 𝓜 𝓡)
