@@ -10,7 +10,7 @@ use Rattle.meaning.specs.Sets.{_∈_}
 use Rattle.meaning.specs.Domain.{Domain, Within, WellFormed}
 use Rattle.meaning.specs.Runs.{Leads, Takes, Run, stop, move, Applicable, Good, Stuck, here, after, NeverFails}
 use Rattle.meaning.specs.Walk.{Walked, ended, blocked, walk, step, Gives, Solves}
-use Rattle.meaning.proofs.SetLaws.{∈-lt, some-member, member-some, ∉-empty}
+use Rattle.meaning.proofs.SetLaws.{∈-lt, some-member, ∉-empty}
 use Rattle.meaning.proofs.StepLaws.{Image, step-some, step-none}
 use Rattle.meaning.specs.Listing.{At}
 use Rattle.meaning.specs.Answers.{NotSendable}

@@ -18,7 +18,7 @@ use Rattle.meaning.specs.Walk.{Walked, ended, blocked, walk, step, Gives
 use Rattle.meaning.specs.Listing.{At}
 use Rattle.meaning.specs.Answers.{Verdict, good, plan, noPlan, refused, Judged, judged, AllCommands, NoCommand, NotSendable, Judges}
 use Rattle.meaning.specs.Computed.{firstMissing, byWalk, unlessMissing, judge}
-use Rattle.meaning.proofs.Tests.{inside-test, outside-test, inside-dec}
+use Rattle.meaning.proofs.Tests.{clash, inside-test, outside-test, inside-dec}
 use Rattle.meaning.proofs.StepLaws.{step-some, command-lt, image-some}
 use Rattle.meaning.proofs.Places.{at-head, at-tail, head-at, tail-at}
 use Rattle.meaning.proofs.WalkLaws.{blocked-at, at-blocked, cons-gives, gives-fun, blocked-ne-ended}
@@ -30,7 +30,7 @@ pub refused-inj : {m n : ℕ} → refused m ≡ refused n → m ≡ n
 refused-inj e = cc
 
 pub refused-not-good : {n : ℕ} → ¬ (refused n ≡ good)
-refused-not-good e = let z : _≡_ {A = ℕ} 0 1 = cc in omega arith
+refused-not-good e = clash (cc)
 
 apart : {m n k l y z : ℕ} {j : Judged} → ¬ (m ≡ n) → j ≡ judged (refused m) k y → ¬ (j ≡ judged (refused n) l z)
 apart h e f = h (refused-inj (ap (λ (i : Judged). i .verdict) (sym e ∙ f)))
@@ -210,8 +210,8 @@ judged-good D ok {x} {g} {p} {j} st u = go (judged-as D x g p u)
 
 verdict-good : (v : Verdict) → (v ≡ good) ⊎ (¬ (v ≡ good))
 verdict-good good = inl refl
-verdict-good plan = inr (λ e. let z : _≡_ {A = ℕ} 0 1 = cc in omega arith)
-verdict-good noPlan = inr (λ e. let z : _≡_ {A = ℕ} 0 1 = cc in omega arith)
+verdict-good plan = inr (λ e. clash (cc))
+verdict-good noPlan = inr (λ e. clash (cc))
 verdict-good (refused n) = inr refused-not-good
 
 -- so it can be decided whether a plan is good

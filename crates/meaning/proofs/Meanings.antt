@@ -7,6 +7,7 @@ use Prim.Native.Nat.{ℕ, _-_, _^_, _≤_, _<_, suc-le-suc}
 use native.Mathlib.Omega.{arith}
 use lib.ListN.{length}
 use lib.Pow.{pow-mono}
+use Rattle.meaning.proofs.Tests.{clash}
 use Rattle.meaning.specs.Sets.{_⊆_}
 use Rattle.meaning.specs.Domain.{Domain, WellFormed, Start}
 use Rattle.meaning.specs.Runs.{Good}
@@ -29,13 +30,13 @@ use Rattle.meaning.proofs.SearchLaws.{Answered, answered, answers-uniqu
 -- ---- the verdicts are told apart
 
 plan-not-none : ¬ (plan ≡ noPlan)
-plan-not-none e = let z : _≡_ {A = ℕ} 0 1 = cc in omega arith
+plan-not-none e = clash (cc)
 
-plan-not-refused : {n : ℕ} → ¬ (plan ≡ refused n)
-plan-not-refused e = let z : _≡_ {A = ℕ} 0 1 = cc in omega arith
+pub plan-not-refused : {n : ℕ} → ¬ (plan ≡ refused n)
+plan-not-refused e = clash (cc)
 
-none-not-refused : {n : ℕ} → ¬ (noPlan ≡ refused n)
-none-not-refused e = let z : _≡_ {A = ℕ} 0 1 = cc in omega arith
+pub none-not-refused : {n : ℕ} → ¬ (noPlan ≡ refused n)
+none-not-refused e = clash (cc)
 
 refusals-apart : ¬ (refused 13 ≡ refused 14)
 refusals-apart e = let z : _≡_ {A = ℕ} 13 14 = refused-inj e in omega arith

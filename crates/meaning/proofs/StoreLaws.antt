@@ -4,7 +4,7 @@ use mathlib.Core.Path.{_≡_, refl, sym, ap, _∙_, subst}
 use mathlib.Core.Logic.{_⊎_, inl, inr, _≢_}
 use mathlib.Core.Bool.{Bool, true, false, _&&_, cond, true≢false}
 use mathlib.Core.Option.{Option, Option·none-ne-some}
-use mathlib.Core.List.{List, [], _∷_, _++_, head-eq-of-cons-eq, tail-eq-of-cons-eq}
+use mathlib.Core.List.{List, [], _∷_, head-eq-of-cons-eq, tail-eq-of-cons-eq}
 use Prim.Native.Nat.{ℕ, zero, suc, _≤_, _<_, zero-le}
 use native.Mathlib.Nat.{lt-of-le-of-lt}
 use native.Mathlib.Omega.{arith}
@@ -17,7 +17,7 @@ use Rattle.meaning.specs.Listing.{Entry, At, then, Prefix, Node, Link, i
 use Rattle.meaning.specs.Computed.{byLast, sameSeq, placeOf, nodeOf, nodes}
 use Rattle.meaning.proofs.Tests.{test}
 use Rattle.meaning.proofs.OrderLaws.{before-then-self, length-then, then-ind}
-use Rattle.meaning.proofs.Places.{at-head, at-tail, head-at, tail-at, at-append, at-lt, lt-at, at-fun, at-take, at-ext, map-at, place-lt, place-of-seq}
+use Rattle.meaning.proofs.Places.{at-head, at-tail, head-at, tail-at, at-lt, lt-at, at-fun, at-take, at-ext, map-at, place-lt, place-of-seq}
 use Rattle.meaning.proofs.ListingLaws.{place-zero, parent}
 
 -- ---- one command more at the end: the parts are known

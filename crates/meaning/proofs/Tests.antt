@@ -1,13 +1,18 @@
--- What a test's outcome says, beyond the library's laws: whether a set lies inside another.
+-- What a test's outcome says, beyond the library's laws: whether a set lies inside another; and what follows from an equation that cannot hold.
 use mathlib.Core.Path.{_≡_, refl}
 use mathlib.Core.Logic.{_⊎_, inl, inr, ⊎-elim}
 use mathlib.Core.Bool.{Bool, true, false}
 use Prim.Native.Nat.{ℕ}
+use native.Mathlib.Omega.{arith}
 use lib.Bits.{bitAnd}
 use borrow.Author.Tests.{eqb-true, eqb-false, eq-eqb, ne-eqb}
 use Rattle.meaning.specs.Sets.{_⊆_, Tells}
 use Rattle.meaning.specs.Computed.{isInside}
 use Rattle.meaning.proofs.SetLaws.{inside-and, and-inside}
+
+-- two different constructors are never equal: from an equation that says so `cc` shows 0 ≡ 1
+pub clash : _≡_ {A = ℕ} 0 1 → ⊥
+clash e = omega arith
 
 pub test : (b : Bool) → (b ≡ true) ⊎ (b ≡ false)
 test true = inl refl

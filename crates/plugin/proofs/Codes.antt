@@ -9,6 +9,7 @@ use Prim.Native.Nat.{ℕ, suc, _≤_}
 use native.Mathlib.Omega.{arith}
 use lib.Dec.{leb}
 use lib.ListN.{length, getD, take}
+use Rattle.meaning.proofs.Tests.{clash}
 use Rattle.meaning.specs.Domain.{Domain}
 use Rattle.meaning.specs.Listing.{Entry}
 use Rattle.meaning.specs.Walk.{Walked, ended, blocked, walk, step}
@@ -67,10 +68,10 @@ small-good : Small answers.good
 small-good = record { bounds = λ {n} e. absurd (laws.refused-not-good (sym e)) }
 
 small-plan : Small answers.plan
-small-plan = record { bounds = λ {n} e. absurd (let z : _≡_ {A = ℕ} 0 1 = cc in omega arith) }
+small-plan = record { bounds = λ {n} e. absurd (clash (cc)) }
 
 small-no-plan : Small answers.noPlan
-small-no-plan = record { bounds = λ {n} e. absurd (let z : _≡_ {A = ℕ} 0 1 = cc in omega arith) }
+small-no-plan = record { bounds = λ {n} e. absurd (clash (cc)) }
 
 judge-small : (D : Domain) (x g : ℕ) (p : List ℕ) → Small (computed.judge D x g p .verdict)
 unfolding computed.judge

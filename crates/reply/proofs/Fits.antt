@@ -14,6 +14,7 @@ use Rattle.meaning.specs.Answers.{Searched, AllCommands, room}
 use Rattle.meaning.proofs.Places.{getD-at}
 use Rattle.meaning.proofs.Agreement.{good-solves}
 use Rattle.meaning.proofs.JudgeLaws.{refused-inj, gives-commands}
+use Rattle.meaning.proofs.Meanings.{plan-not-refused, none-not-refused}
 use Rattle.meaning.proofs.SearchLaws as answers
 use Rattle.meaning.proofs.SearchLaws.{Answered, answered, count-fits}
 use Rattle.sheet.specs.Sheet.{domainIn}
@@ -74,12 +75,6 @@ two-numbers word {m} {n} w h k = omega (arith, length-by-digits 4 0 word (m ∷ 
 
 -- ---- the answer for an accepted sheet
 
-no-plan-refused : {n : ℕ} → ¬ (meaning.plan ≡ meaning.refused n)
-no-plan-refused e = let z : _≡_ {A = ℕ} 0 1 = cc in omega arith
-
-no-none-refused : {n : ℕ} → ¬ (meaning.noPlan ≡ meaning.refused n)
-no-none-refused e = let z : _≡_ {A = ℕ} 0 1 = cc in omega arith
-
 abbrev store : List Node
 store = replicate places nothing
 
@@ -106,11 +101,11 @@ module _ {l : List ℕ} {h : Head} (e : reading l ≡ reading-is.Accepted h) {s 
       says f = ap (λ (o : Searched). o .verdict) (sym (done .answer-is ∙ f)) ∙ ap verdictOf q
 
       go : Answered (h .goal) (done .searches .listing) (room (length store)) (length buffer) (done .says) → n ≡ 13
-      go (answers.plan b k m f) = absurd (no-plan-refused (says f))
+      go (answers.plan b k m f) = absurd (plan-not-refused (says f))
       go (answers.too-long b k m f) =
           let shorter = length-below-count l e u (inr (q ∙ ap verdict-is.Refused (sym (refused-inj (says f))))) in
           absurd (omega (arith, m, length-replicate places zero, ap (λ (o : Searched). o .plan-length) (done .answer-is ∙ f), shorter, count-at-most))
-      go (answers.no-plan b k f) = absurd (no-none-refused (says f))
+      go (answers.no-plan b k f) = absurd (none-not-refused (says f))
       go (answers.no-room b k f) = sym (refused-inj (says f))
 
   -- the line of each verdict

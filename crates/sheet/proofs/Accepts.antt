@@ -8,6 +8,7 @@ use native.Mathlib.Omega.{arith}
 use lib.Dec.{eqb, ltb}
 use lib.ListN.{length}
 use borrow.Author.Tests.{le-ltb, eq-eqb, eqb-true, not-false}
+use Rattle.meaning.proofs.Tests.{clash}
 use Rattle.numbers.specs.Bytes.{numberAt}
 use Rattle.sheet.specs.Sheet.{Valid, sheetIn, setIn, statedFor, lengthFor}
 use Rattle.sheet.specs.Refusals.{verdict, isUneven, headOf, stated, readingRows}
@@ -71,4 +72,4 @@ reading-accepts l h e = go (verdict Failed Passed (readingRows l)) refl
         record { accepts = none-accepts l (record { passes = p }); head = cc }
     go (Failed q) p =
         let f : Refused q ≡ Accepted h = sym (reading-by l ∙ ap (λ (k : Check). onCheck Refused (Accepted (headOf (sheetIn l))) k) p) ∙ e in
-        absurd (let z : _≡_ {A = ℕ} 0 1 = cc in omega arith)
+        absurd (clash (cc))

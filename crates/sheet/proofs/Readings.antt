@@ -1,7 +1,6 @@
 -- A reading is one of two, and what it holds is known from it.
 use mathlib.Core.Path.{_≡_}
-use Prim.Native.Nat.{ℕ}
-use native.Mathlib.Omega.{arith}
+use Rattle.meaning.proofs.Tests.{clash}
 use Rattle.sheet.specs.declared.Head.{Head}
 use Rattle.sheet.specs.declared.Refusal.{Refusal}
 use Rattle.sheet.specs.declared.Reading.the-variants.{Accepted, Refused}
@@ -13,4 +12,4 @@ pub refused-inj : {f g : Refusal} → Refused f ≡ Refused g → f ≡ g
 refused-inj e = cc
 
 pub not-both : {h : Head} {f : Refusal} → ¬ (Accepted h ≡ Refused f)
-not-both e = let z : _≡_ {A = ℕ} 0 1 = cc in omega arith
+not-both e = clash (cc)

@@ -8,6 +8,7 @@ use mathlib.Core.List.{List, [], _∷_, _++_}
 use Prim.Native.Nat.{ℕ, zero, suc, _+_, _<_, _≤_}
 use native.Mathlib.Omega.{arith}
 use lib.ListN.{getElem?}
+use Rattle.meaning.proofs.Tests.{clash}
 use Rattle.sheet.specs.Sheet.{Sheet, sheetIn, setsAt, setWidth}
 use Rattle.sheet.specs.Refusals.{Row, verdict, headOf, headRows, setRows, sheetRows, isUneven, stated, readingRows}
 use Rattle.sheet.specs.Answers.{reading}
@@ -36,7 +37,7 @@ later r rs q e g = record { at = suc (g .at); holds-there = g .holds-there; none
 
 pub fails-given : (rs : List Row) (q : Refusal) → verdict Failed Passed rs ≡ Failed q → Given rs q
 unfolding verdict
-fails-given [] q e = absurd (let z : _≡_ {A = ℕ} 0 1 = cc in omega arith)
+fails-given [] q e = absurd (clash (cc))
 fails-given (r ∷ rs) q e = go (r .holds) refl e (fails-given rs q)
   where
     go : (b : Bool) → r .holds ≡ b → cond b (Failed (r .gives)) (verdict Failed Passed rs) ≡ Failed q → (verdict Failed Passed rs ≡ Failed q → Given rs q) → Given (r ∷ rs) q
@@ -49,7 +50,7 @@ pub given-fails : (rs : List Row) (q : Refusal) → Given rs q → verdict Faile
 given-fails rs q g = go rs (g .at) (g .holds-there) (g .none-before)
   where
     go : (rs : List Row) (k : ℕ) → getElem? rs k ≡ some (record { holds = true; gives = q }) → ((j : ℕ) (r : Row) → j < k → getElem? rs j ≡ some r → r .holds ≡ false) → verdict Failed Passed rs ≡ Failed q
-    go [] k e n = absurd (let z : _≡_ {A = ℕ} 0 1 = cc in omega arith)
+    go [] k e n = absurd (clash (cc))
     go (r ∷ rs) zero e n =
         let f : r ≡ record { holds = true; gives = q } = cc in
         holds-here Failed Passed r rs (ap (λ (o : Row). o .holds) f) ∙ ap (λ (o : Row). Failed (o .gives)) f
@@ -61,7 +62,7 @@ pub refused-as : (l : List ℕ) (q : Refusal) → (reading l ≡ Refused q) ↔ 
 refused-as l q = (λ e. fails-given (readingRows l) q (there (verdict Failed Passed (readingRows l)) (sym (reading-by l) ∙ e)), λ g. reading-by l ∙ ap (λ (k : Check). onCheck Refused (Accepted (headOf (sheetIn l))) k) (given-fails (readingRows l) q g))
   where
     there : (k : Check) → onCheck Refused (Accepted (headOf (sheetIn l))) k ≡ Refused q → k ≡ Failed q
-    there Passed e = absurd (let z : _≡_ {A = ℕ} 0 1 = cc in omega arith)
+    there Passed e = absurd (clash (cc))
     there (Failed p) e = let f : p ≡ q = cc in ap Failed f
 
 -- ---- reading gives only 1 to 8
@@ -97,7 +98,7 @@ each-sheet low high l h uneven s =
 
 pub each-gives : (low high : ℕ) (rs : List Row) (q : Refusal) → Each low high rs → verdict Failed Passed rs ≡ Failed q → Between low high q
 unfolding verdict
-each-gives low high [] q e f = absurd (let z : _≡_ {A = ℕ} 0 1 = cc in omega arith)
+each-gives low high [] q e f = absurd (clash (cc))
 each-gives low high (r ∷ rs) q e f = go (r .holds) f (each-gives low high rs q (e .1))
   where
     go : (b : Bool) → cond b (Failed (r .gives)) (verdict Failed Passed rs) ≡ Failed q → (verdict Failed Passed rs ≡ Failed q → Between low high q) → Between low high q

@@ -12,6 +12,7 @@ use lib.Dec.{ltb}
 use lib.ListN.{length, getD, drop, drop-of-length-le}
 use lib.Seq.{drop-cons}
 use borrow.Author.Tests.{le-leb, lt-leb, ltb-false}
+use Rattle.meaning.proofs.Tests.{clash}
 use Rattle.meaning.specs.Sets.{Tells}
 use Rattle.sheet.specs.Sheet.{setOffset, from}
 use Rattle.sheet.specs.Refusals.{Row, row, verdict, missing, outside, setRows}
@@ -59,7 +60,7 @@ unfolding verdict
 passes-here r rs e = go (r .holds) e
   where
     go : (b : Bool) → cond b (Failed (r .gives)) (verdict Failed Passed rs) ≡ Passed → b ≡ false
-    go true e = absurd (let z : _≡_ {A = ℕ} 0 1 = cc in omega arith)
+    go true e = absurd (clash (cc))
     go false e = refl
 
 pub passes-rest : (r : Row) (rs : List Row) → verdict Failed Passed (r ∷ rs) ≡ Passed → verdict Failed Passed rs ≡ Passed
@@ -114,7 +115,7 @@ pub product : {a b : ℕ} → a ≤ 32 → b ≤ 64 → a * b ≤ 2048
 product h k = mul-le-mul h k
 
 pub or-false : (a b : Bool) → (a || b) ≡ false → (a ≡ false) × (b ≡ false)
-or-false true b e = absurd (let z : _≡_ {A = ℕ} 0 1 = cc in omega arith)
+or-false true b e = absurd (clash (cc))
 or-false false b e = (refl, e)
 
 pub both-false : {a b : Bool} → a ≡ false → b ≡ false → (a || b) ≡ false

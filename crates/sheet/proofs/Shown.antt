@@ -8,6 +8,7 @@ use native.Mathlib.Omega.{arith}
 use lib.Dec.{ltb, leb}
 use lib.ListN.{length}
 use borrow.Author.Tests.{ltb-true, leb-true}
+use Rattle.meaning.proofs.Tests.{clash}
 use Rattle.numbers.specs.Bytes.{part}
 use Rattle.sheet.specs.Sheet.{setOffset, setWidth}
 use Rattle.sheet.specs.Shown.{isShown, shownFrom, shownAt}
@@ -16,7 +17,7 @@ use Rattle.sheet.proofs.Rows.{product}
 
 pub and-true : (a b : Bool) → (a && b) ≡ true → (a ≡ true) × (b ≡ true)
 and-true true b e = (refl, e)
-and-true false b e = absurd (let z : _≡_ {A = ℕ} 0 1 = cc in omega arith)
+and-true false b e = absurd (clash (cc))
 
 pub record Shown (n states a s : ℕ) : Type 0 where
   pub state : s < states

@@ -9,6 +9,7 @@ use lib.Dec.{eqb}
 use lib.ListN.{length, take, drop}
 use lib.Seq.{take-at}
 use borrow.Author.Tests.{le-ltb, ltb-false, eq-eqb, eqb-true, not-false}
+use Rattle.meaning.proofs.Tests.{clash}
 use Rattle.numbers.specs.Bytes.{AreBytes}
 use Rattle.sheet.specs.Sheet.{Sheet, Valid, encode, sheetIn, sheetWith, lengthFor, domain, domainIn}
 use Rattle.sheet.specs.Refusals.{Row, verdict, headOf, sheetRows}
@@ -42,7 +43,7 @@ none-first rs qs n = go (verdict Failed Passed rs) refl
     go Passed e = (record { passes = e }, record { passes = sym (split ∙ ap (λ (k : Check). onCheck Failed (verdict Failed Passed qs) k) e) ∙ n .passes })
     go (Failed q) e =
         let f : Failed q ≡ Passed = sym (split ∙ ap (λ (k : Check). onCheck Failed (verdict Failed Passed qs) k) e) ∙ n .passes in
-        absurd (let z : _≡_ {A = ℕ} 0 1 = cc in omega arith)
+        absurd (clash (cc))
 
 -- a sheet that can be written, and the room for it
 pub record Writes (s : Sheet) (room : ℕ) : Type 0 where
@@ -77,7 +78,7 @@ module _ (s : Sheet) (out : List ℕ) where
           (none-writes s (length out) (record { passes = p }), cc)
       go (Failed q) p =
           let f : Refused q ≡ Written k = sym (writing-by s (length out) ∙ ap (λ (c : Check). onCheck Refused (Written (lengthFor (s .states) (s .commands))) c) p) ∙ e in
-          absurd (let z : _≡_ {A = ℕ} 0 1 = cc in omega arith)
+          absurd (clash (cc))
 
   pub writes-answer : Writes s (length out) → writing s (length out) ≡ Written (lengthFor (s .states) (s .commands))
   writes-answer w = writing-by s (length out) ∙ ap (λ (c : Check). onCheck Refused (Written (lengthFor (s .states) (s .commands))) c) (writes-none s (length out) w .passes)

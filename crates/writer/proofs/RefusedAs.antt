@@ -8,6 +8,7 @@ use Prim.Native.Nat.{ℕ, _*_}
 use native.Mathlib.Omega.{arith}
 use lib.Dec.{eqb}
 use lib.ListN.{length}
+use Rattle.meaning.proofs.Tests.{clash}
 use Rattle.sheet.specs.Sheet.{Sheet, lengthFor}
 use Rattle.sheet.specs.Refusals.{verdict, sheetRows}
 use Rattle.sheet.specs.declared.Refusal.{Refusal}
@@ -27,7 +28,7 @@ write-refused-as s room q = (λ e. fails-given (writingRows s room) q (there (ve
     done = Written (lengthFor (s .states) (s .commands))
 
     there : (k : Check) → onCheck Refused done k ≡ Refused q → k ≡ Failed q
-    there Passed e = absurd (let z : _≡_ {A = ℕ} 0 1 = cc in omega arith)
+    there Passed e = absurd (clash (cc))
     there (Failed p) e = let f : p ≡ q = cc in ap Failed f
 
 pub writing-gives : (s : Sheet) (room : ℕ) (q : Refusal) → writing s room ≡ Refused q → Between 4 9 q
