@@ -1,9 +1,10 @@
 //! Example sheets: those of the scope's table, the scanner of the first mistake, the published
-//! domains that fit into 64 states, and the slide tray. Each comes with a text that says what its states and commands are.
+//! domains that fit into 64 states, the slide tray, and the program's limits. Each comes with a text that says what its states and commands are.
 
 pub mod bench;
 pub mod bomb;
 pub mod grid;
+pub mod limits;
 pub mod ring;
 pub mod robot;
 pub mod scanner;
@@ -47,6 +48,7 @@ pub fn all() -> Vec<Example> {
     examples.extend(grid::examples());
     examples.extend(ring::examples());
     examples.extend(tray::examples());
+    examples.extend(limits::examples());
     examples
 }
 

@@ -4,7 +4,7 @@
 mod common;
 
 use common::{bytes_of, searched, After};
-use second::examples::{self, bomb, grid, ring, robot, scanner, tray};
+use second::examples::{self, bomb, grid, limits, ring, robot, scanner, tray};
 use second::judge::{judge, Verdict};
 use second::search::Outcome;
 use second::sheet::{read, Refusal, Sheet};
@@ -148,12 +148,22 @@ fn the_tray_stops_at_its_edges() {
 }
 
 #[test]
-fn names_are_distinct_and_only_three_are_refused() {
+fn thirteen_slots_need_every_place() {
+    let sheet = bytes_of(&limits::slots());
+    let after = searched(&sheet, 8_192, 13);
+    assert_eq!(after.answer.outcome, Outcome::Plan);
+    assert_eq!(after.plan, [0, 1, 2, 3, 4, 5, 6, 7, 8, 9, 10, 11, 12]);
+    let answer = searched(&sheet, 8_191, 13).answer;
+    assert_eq!((answer.outcome, answer.count), (Outcome::NoRoom, 8_191));
+}
+
+#[test]
+fn names_are_distinct_and_only_five_are_refused() {
     let all = examples::all();
     let mut names: Vec<&str> = all.iter().map(|e| e.name.as_str()).collect();
     names.sort_unstable();
     names.dedup();
     assert_eq!(names.len(), all.len());
     let refused = all.iter().filter(|e| read(&e.bytes).is_err()).count();
-    assert_eq!(refused, 3);
+    assert_eq!(refused, 5);
 }
