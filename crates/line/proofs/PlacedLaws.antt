@@ -41,8 +41,10 @@ module _ (bytes : List ℕ) (at : ℕ) (before : List ℕ) {end : ℕ} (e : end 
       subst (λ (n : ℕ). Placed bytes at before after (End n)) x (stored-whole bytes at before (omega arith) f)
 
 -- the line of a value that is known by its case
-pub of-case : (commands : List ℕ) {l k : Line} {at : ℕ} {before after : List ℕ} {r : Printed} → l ≡ k → Placed (lineOf (answerOf k commands)) at before after r → Placed (lineOf (answerOf l commands)) at before after r
-of-case commands {at = at} {before = before} {after = after} {r = r} e p = subst (λ (m : Line). Placed (lineOf (answerOf m commands)) at before after r) (sym e) p
+pub of-case : (commands : List ℕ) {l k : Line} {bytes : List ℕ} {at : ℕ} {before after : List ℕ} {r : Printed} → l ≡ k → Placed bytes at before after r → bytes ≡ lineOf (answerOf k commands)
+    → Placed (lineOf (answerOf l commands)) at before after r
+of-case commands {at = at} {before = before} {after = after} {r = r} e p f =
+    subst (λ (b : List ℕ). Placed b at before after r) (f ∙ ap (λ (m : Line). lineOf (answerOf m commands)) (sym e)) p
 
 -- ---- what a caller learns
 
