@@ -97,6 +97,7 @@ pub fn put_field(out: &mut [u8], at: usize, n: u64) -> usize
     put_number(out, at + 1, n)
 }
 
+// Some fields one after another, and some commands.
 pub fn put_fields(out: &mut [u8], at: usize, fields: &[u64]) -> usize
     requires { ⌜ at + length (spaced (now fields)) ≤ length (now out) ⌝ }
     ensures { λ r. ⌜ r ≡ at + length (spaced (now (fields .entry))) ⌝ }
