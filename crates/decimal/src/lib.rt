@@ -11,6 +11,7 @@ const BLANK: u8 = 32;
 
 const LARGEST: usize = 18446744073709551615;
 
+// A byte as a number.
 fn wide(x: u8) -> u64
     ensures { λ r. ⌜ r ≡ x ⌝ }
 {
@@ -97,6 +98,8 @@ pub fn put_field(out: &mut [u8], at: usize, n: u64) -> usize
     put_number(out, at + 1, n)
 }
 
+// Some fields one after another, and some commands.
+// Fields one after another, and commands.
 pub fn put_fields(out: &mut [u8], at: usize, fields: &[u64]) -> usize
     requires { ⌜ at + length (spaced (now fields)) ≤ length (now out) ⌝ }
     ensures { λ r. ⌜ r ≡ at + length (spaced (now (fields .entry))) ⌝ }

@@ -40,8 +40,10 @@ module _ (bytes : List ℕ) (at : ℕ) (before : List ℕ) {end : ℕ} (e : end 
       subst (λ (n : ℕ). Placed bytes at before after (End n)) x (stored-whole bytes at before (omega arith) f)
 
 -- the line of a value that is known by its case
-pub of-case : (commands : List ℕ) {l k : Line} {at : ℕ} {before after : List ℕ} {r : Printed} → l ≡ k → Placed (lineOf (answerOf k commands)) at before after r → Placed (lineOf (answerOf l commands)) at before after r
-of-case commands {at = at} {before = before} {after = after} {r = r} e p = subst (λ (m : Line). Placed (lineOf (answerOf m commands)) at before after r) (sym e) p
+pub of-case : (commands : List ℕ) {l k : Line} {bytes : List ℕ} {at : ℕ} {before after : List ℕ} {r : Printed} → l ≡ k → Placed bytes at before after r → lineOf (answerOf k commands) ≡ bytes
+    → Placed (lineOf (answerOf l commands)) at before after r
+of-case commands {at = at} {before = before} {after = after} {r = r} e p f =
+    subst (λ (b : List ℕ). Placed b at before after r) (sym (ap (λ (m : Line). lineOf (answerOf m commands)) e ∙ f)) p
 
 -- ---- what a caller learns
 
@@ -50,31 +52,26 @@ pub one-result : {bytes : List ℕ} {at : ℕ} {before after other : List ℕ} {
 one-result p o = (p .answer ∙ sym (o .answer), p .output ∙ sym (o .output))
 
 module _ {bytes : List ℕ} {at : ℕ} {before after : List ℕ} {r : Printed} (p : Placed bytes at before after r) where
+  -- the bytes fit and are stored, or they do not and the buffer is as it was
+  by-room : {P : Type 0} → (at + length bytes ≤ length before → r ≡ End (at + length bytes) → after ≡ sets before at bytes → P) → (r ≡ Short (capped (at + length bytes)) → after ≡ before → P) → P
+  unfolding answered placed
+  by-room {P} fits short = go (leb (at + length bytes) (length before)) refl
+    where
+      go : (t : Bool) → leb (at + length bytes) (length before) ≡ t → P
+      go true l = let h = leb-true (at + length bytes) (length before) l in fits h (p .answer ∙ simp l) (p .output ∙ (simp l) ∙ sym (sets-eq bytes before at h))
+      go false l = short (p .answer ∙ simp l) (p .output ∙ simp l)
+
   -- an end is where the bytes end, and lies within the buffer
   pub end-within : {end : ℕ} → r ≡ End end → (end ≡ at + length bytes) × (end ≤ length before)
-  unfolding answered
-  end-within {end} e = go (leb (at + length bytes) (length before)) refl (sym e ∙ p .answer)
-    where
-      go : (t : Bool) → leb (at + length bytes) (length before) ≡ t → End end ≡ cond t (End (at + length bytes)) (Short (capped (at + length bytes))) → (end ≡ at + length bytes) × (end ≤ length before)
-      go true l f = let x : end ≡ at + length bytes = cc in (x, omega (arith, leb-true (at + length bytes) (length before) l))
-      go false l f = let z : _≡_ {A = ℕ} 0 1 = cc in absurd (omega arith)
+  end-within {end} e = by-room (λ h q s. let x : end ≡ at + length bytes = cc in (x, omega arith)) (λ q s. let z : _≡_ {A = ℕ} 0 1 = cc in absurd (omega arith))
 
   -- too short a buffer is as it was
   pub short-kept : {needed : ℕ} → r ≡ Short needed → (needed ≡ capped (at + length bytes)) × (after ≡ before)
-  unfolding answered placed
-  short-kept {needed} e = go (leb (at + length bytes) (length before)) (sym e ∙ p .answer) (p .output)
-    where
-      go : (t : Bool) → Short needed ≡ cond t (End (at + length bytes)) (Short (capped (at + length bytes))) → after ≡ cond t (take at before ++ bytes ++ drop (at + length bytes) before) before → (needed ≡ capped (at + length bytes)) × (after ≡ before)
-      go true f g = let z : _≡_ {A = ℕ} 0 1 = cc in absurd (omega arith)
-      go false f g = let x : needed ≡ capped (at + length bytes) = cc in (x, g)
+  short-kept {needed} e = by-room (λ h q s. let z : _≡_ {A = ℕ} 0 1 = cc in absurd (omega arith)) (λ q s. let x : needed ≡ capped (at + length bytes) = cc in (x, s))
 
   -- an end: the bytes are stored
   pub end-stored : {end : ℕ} → r ≡ End end → after ≡ sets before at bytes
-  unfolding placed
-  end-stored e =
-      let h : at + length bytes ≤ length before = omega (arith, end-within e .0, end-within e .1) in
-      let t = le-leb (at + length bytes) (length before) h in
-      p .output ∙ (simp t) ∙ sym (sets-eq bytes before at h)
+  end-stored e = by-room (λ h q s. s) (λ q s. let z : _≡_ {A = ℕ} 0 1 = cc in absurd (omega arith))
 
   -- a buffer that is long enough gets them
   pub enough : at + length bytes ≤ length before → r ≡ End (at + length bytes)

@@ -2,16 +2,15 @@
 -- The idea: letters and digits go on up to the first blank or line feed, so the word and each field can be told from what follows; and the five words
 -- differ in their first letter.
 use mathlib.Core.Path.{_≡_, refl, sym, ap₂, _∙_}
-use mathlib.Core.Bool.{Bool, true, false, cond}
+use mathlib.Core.Bool.{cond}
 use mathlib.Core.List.{List, [], _∷_, _++_, append-assoc}
-use Prim.Native.Nat.{ℕ, _<_}
+use Prim.Native.Nat.{ℕ, _≤_, _<_}
 use native.Mathlib.Omega.{arith}
-use lib.Dec.{eqb, leb}
+use lib.Dec.{eqb}
 use lib.ListN.{getD, drop}
-use borrow.Author.Tests.{leb-true}
 use Rattle.decimal.specs.Decimal.{digit, decimal}
 use Rattle.decimal.specs.Fields.{blank, spaced}
-use Rattle.line.specs.Lines.{lineFeed, row, Answer, plan, none, room, long, bad, word, fields, lineOf}
+use Rattle.line.specs.Lines.{lineFeed, row, PLAN, NONE, ROOM, LONG, BAD, Answer, plan, none, room, long, bad, word, fields, lineOf}
 use Rattle.decimal.proofs.DecimalLaws.{Within, nothing, also, decimal-digits, decimal-same}
 
 -- ---- bytes from `low` on, and then one below it
@@ -49,27 +48,20 @@ same-fields (m ∷ ms) (n ∷ ns) e =
 
 -- ---- words
 
-capitals : List ℕ → Bool
-capitals [] = true
-capitals (b ∷ bs) = cond (leb 65 b) (cond (leb b 90) (capitals bs) false) false
+abbrev Capitals : List ℕ → Type 0
+Capitals [] = Unit {0}
+Capitals (b ∷ bs) = (65 ≤ b) × (b ≤ 90) × Capitals bs
 
-all-true : (s t r : Bool) → cond s (cond t r false) false ≡ true → (s ≡ true) × (t ≡ true) × (r ≡ true)
-all-true true true r e = (refl, refl, e)
-all-true true false r e = let z : _≡_ {A = ℕ} 0 1 = cc in absurd (omega arith)
-all-true false t r e = let z : _≡_ {A = ℕ} 0 1 = cc in absurd (omega arith)
-
-letters : (w : List ℕ) → capitals w ≡ true → Within 65 90 w
-unfolding capitals
+letters : (w : List ℕ) → Capitals w → Within 65 90 w
 letters [] e = nothing
-letters (b ∷ bs) e = let p = all-true (leb 65 b) (leb b 90) (capitals bs) e in also (leb-true 65 b (p .0)) (leb-true b 90 (p .1)) (letters bs (p .2))
+letters (b ∷ bs) e = also (e .0) (e .1) (letters bs (e .2))
 
 word-letters : (a : Answer) → Within 65 90 (word a)
-unfolding capitals
-word-letters (plan count length commands) = letters _ refl
-word-letters (none count) = letters _ refl
-word-letters (room count) = letters _ refl
-word-letters (long count length) = letters _ refl
-word-letters (bad refusal place) = letters _ refl
+word-letters (plan count length commands) = letters PLAN (omega arith)
+word-letters (none count) = letters NONE (omega arith)
+word-letters (room count) = letters ROOM (omega arith)
+word-letters (long count length) = letters LONG (omega arith)
+word-letters (bad refusal place) = letters BAD (omega arith)
 
 -- ---- the answer by its word and fields
 

@@ -1,4 +1,4 @@
--- Where a sheet is refused: however long the bytes are, the place lies below 16,400, where the last following set of the largest sheet stands.
+-- Where a sheet is refused: however long the bytes are, the place lies below 16,400. The last following set of the largest sheet stands at 16,399.
 -- The idea: by the row that decides. The place of the first row is a length below 5, that of a following set is bounded since both counts are in range where an
 -- earlier row did not decide, and all others are fixed.
 use mathlib.Core.Path.{_≡_, refl, ap}

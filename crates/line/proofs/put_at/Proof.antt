@@ -1,4 +1,6 @@
 -- `line::put_at` meets its contract: each case calls with its own word and fields.
+use mathlib.Core.Path.{refl}
+use denote.Ref.{now}
 use borrow.Author.Needs.{needs}
 use Rattle.line.proofs.PlacedLaws.{of-case}
 use Rattle.line.proofs.put_at.Statement.{statement}
@@ -59,31 +61,46 @@ same-length : tie.Need-same-length
 same-length c = search needs
 
 returns : tie.Need-returns
-returns c = let p = c .before .before in of-case _ (p .before .before .before .before .before .line .given .1) (p .put-row .ensures)
+returns c =
+    let p = c .before .before in
+    let l = p .before .before .before .before .before in
+    of-case (now (l .before .before .before .before .args .commands)) (l .line .given .1) (p .put-row .ensures) refl
 
 same-length-2 : tie.Need-same-length-2
 same-length-2 c = search needs
 
 returns-2 : tie.Need-returns-2
-returns-2 c = let p = c .before .before in of-case _ (p .before .before .before .before .line2 .given .1) (p .put-two .ensures)
+returns-2 c =
+    let p = c .before .before in
+    let l = p .before .before .before .before in
+    of-case (now (l .before .before .before .before .args .commands)) (l .line2 .given .1) (p .put-two .ensures) refl
 
 same-length-3 : tie.Need-same-length-3
 same-length-3 c = search needs
 
 returns-3 : tie.Need-returns-3
-returns-3 c = let p = c .before .before in of-case _ (p .before .before .before .before .line3 .given .1) (p .put-two2 .ensures)
+returns-3 c =
+    let p = c .before .before in
+    let l = p .before .before .before .before in
+    of-case (now (l .before .before .before .before .args .commands)) (l .line3 .given .1) (p .put-two2 .ensures) refl
 
 same-length-4 : tie.Need-same-length-4
 same-length-4 c = search needs
 
 returns-4 : tie.Need-returns-4
-returns-4 c = let p = c .before .before in of-case _ (p .before .before .before .before .line4 .given .1) (p .put-two3 .ensures)
+returns-4 c =
+    let p = c .before .before in
+    let l = p .before .before .before .before in
+    of-case (now (l .before .before .before .before .args .commands)) (l .line4 .given .1) (p .put-two3 .ensures) refl
 
 same-length-5 : tie.Need-same-length-5
 same-length-5 c = search needs
 
 returns-5 : tie.Need-returns-5
-returns-5 c = let p = c .before .before in of-case _ (p .before .before .before .before .line5 .given .1) (p .put-two4 .ensures)
+returns-5 c =
+    let p = c .before .before in
+    let l = p .before .before .before .before in
+    of-case (now (l .before .before .before .before .args .commands)) (l .line5 .given .1) (p .put-two4 .ensures) refl
 
 pub put-at-spec : {M : Type 1} → statement M
 put-at-spec =
