@@ -1,49 +1,27 @@
 -- `explore::run` meets its contract: a walk of its MIR, and what the walk asks. Each turn of the loop is a law of `TurnLaws`.
-use mathlib.Core.Path.{refl, _∙_}
-use mathlib.Core.List.{List, [], _∷_}
-use Prim.Native.Nat.{ℕ, _<_, _≤_, _+_, _-_}
-use native.Mathlib.Omega.{arith}
-use package.mir.Syntax.{w64, w8, add, lt, ne, unsigned, field, named, erased, mut}
-use contract.Lifetimes.{Lfts, Shares}
-use contract.Running.{tablesOf}
-use borrow.Table.Row.{Cx, Row, sInt, sBool, lease}
-use borrow.Table.Rows.{sc-here}
-use borrow.Rule.Scalar.{After}
-use borrow.Rule.Slice.Mut.{setVals}
-use borrow.Author.Tests.{ltb-true, ltb-false, eqb-true, eqb-false, not-true, not-false}
-use borrow.Fn.Function.{Γin}
-use borrow.Fn.World.{World}
+use Rattle.walks.proofs.Facts.{refl, _∙_, List, [], _∷_, ℕ, _<_, _≤_, _+_, _-_, arith, ltb-true, ltb-false, eqb-true, eqb-false, not-true, not-false}
+use Rattle.walks.proofs.Steps.{w64, w8, add, lt, ne, unsigned, field, named, erased, mut, Lfts, Shares, tablesOf, Cx, Row, sInt, sBool, lease, sc-here, After, setVals, Γin, World, Callee, here, _$_, _then_, _free_, _with_, returned, last, skipped, left, joined, branches, loops, begins, ends, forgets, n64, flag, fresh, over, same, at, part, lit, puts, does, gone, none, num, num-lit, calls, is, holds, value-room, val-arg, copies-value, ptr, kept, mut-all, owed-len, lends, slices, backs, mut-arg, shr-arg, a-lent, site, Walked, Laid, closes, Cited, cites}
 use Rattle.follow.specs.Following.{domainBy}
 use Rattle.store.specs.declared.Node.{Node}
 use Rattle.store.specs.Nodes.{setAt}
 use Rattle.store.proofs.Types.{byte, node-type}
-use Rattle.walks.proofs.Walk.{Callee, now as here, _$_, _then_, _free_, _with_, returned, last, skipped, left, joined, branches, loops, begins, ends, forgets, n64, flag, fresh, over, same, at, part, lit, puts, does, gone, none, num, num-lit, calls}
-use Rattle.walks.proofs.Values.{is, holds, value-room, val-arg, copies-value}
-use Rattle.walks.proofs.Slices.{ptr, kept, mut-all, owed-len, lends, slices, backs, mut-arg, shr-arg, a-lent}
-use Rattle.walks.proofs.Meets.{site, Walked, Laid, closes, Cited, cites}
 use Rattle.explore.proofs.TurnLaws.{Running, running-start, running-asks, running-on, running-ended, ran}
 use Rattle.explore.proofs.Types.{head-type, turn-type, kind-of, count-of}
 use Rattle.explore.proofs.Jobs as jobs
 use Rattle.explore.proofs.Jobs.{run as job}
-use Rattle.explore.proofs.expand.Symbol as expand-def
-use Rattle.explore.proofs.expand.Met as expand-thm
-use Rattle.explore.proofs.turned.Symbol as turned-def
-use Rattle.explore.proofs.turned.Kinds as turned-kinds
-use Rattle.explore.proofs.turned.Reads as turned-reads
-use Rattle.explore.proofs.turned.Met as turned-thm
-use Rattle.explore.proofs.run.Key.{name}
-use Rattle.explore.proofs.run.Statement.{statement}
-use Rattle.explore.proofs.run.Code as code
+use Rattle.explore.proofs.expand as expand-fn
+use Rattle.explore.proofs.turned as turned-fn
+use Rattle.explore.proofs.run as this
 
 abbrev u64 : Row
 u64 = sc-here (sInt w64)
 
 module _ (w : World) where
-  expand : Cited job jobs.expand w code.env expand-def.name
-  expand = cites job jobs.expand w code.env expand-def.name expand-def.routine code.calls-explore·expand (expand-thm.met (w .𝓤) (w .H) (w .𝓜) (w .𝓖) (w .𝓡))
+  expand : Cited job jobs.expand w this.Code.env expand-fn.Symbol.name
+  expand = cites job jobs.expand w this.Code.env expand-fn.Symbol.name expand-fn.Symbol.routine this.Code.calls-explore·expand (expand-fn.Met.met (w .𝓤) (w .H) (w .𝓜) (w .𝓖) (w .𝓡))
 
-  turned : (bs : List ℕ) → Callee (site job w code.env bs) 0 turned-kinds.ps turned-kinds.r turned-reads.Asked turned-reads.Learnt turned-def.name
-  turned bs = record { known = turned-reads.known w code.env turned-def.name turned-def.routine code.calls-explore·turned (turned-thm.met (w .𝓤) (w .H) (w .𝓜) (w .𝓖) (w .𝓡)) }
+  turned : (bs : List ℕ) → Callee (site job w this.Code.env bs) 0 turned-fn.Kinds.ps turned-fn.Kinds.r turned-fn.Reads.Asked turned-fn.Reads.Learnt turned-fn.Symbol.name
+  turned bs = record { known = turned-fn.Reads.known w this.Code.env turned-fn.Symbol.name turned-fn.Symbol.routine this.Code.calls-explore·turned (turned-fn.Met.met (w .𝓤) (w .H) (w .𝓜) (w .𝓖) (w .𝓡)) }
 
   -- the contexts: at the loop's head, and with what an expansion said
   module _ (κs : Lfts 2) (qs : Shares 2) where
@@ -53,7 +31,7 @@ module _ (w : World) where
     abbrev Has-t : Cx
     Has-t = After Hd 8 (is turn-type)
 
-  abbrev walk : Walked job w code.env code.function
+  abbrev walk : Walked job w this.Code.env this.Code.function
   walk κs qs bs =
       puts 6 (sInt w64) (lit w64 1 tt) fresh refl (λ u. refl) (λ u. tt) then
       puts 7 (sInt w64) (lit w64 0 tt) fresh refl (λ u. refl) (λ u. tt) then
@@ -83,7 +61,7 @@ module _ (w : World) where
       gone 1 (value-room head-type) free gone 3 (over (sInt w64)) free gone 5 (over (sInt w64)) free gone 6 (over (sInt w64)) free gone 7 (over (sInt w64)) free
       returned tt)
 
-  laid : Laid job w code.env code.function walk
+  laid : Laid job w this.Code.env this.Code.function walk
   laid κs qs a good pre bs =
       let room : ℕ = a .1 .1 .1 .1 .0 in
       let most : room ≤ 65536 = pre .most in (
@@ -117,7 +95,7 @@ module _ (w : World) where
             ),
       )
 
-pub run-spec : {M : Type 1} → statement M
-unfolding code.routine tablesOf
+pub run-spec : {M : Type 1} → this.Statement.statement M
+unfolding this.Code.routine tablesOf
 run-spec {M} 𝓤 H 𝓜 𝓖 𝓡 =
-    let w : World = record { M = M; 𝓤 = 𝓤; H = H; 𝓜 = 𝓜; 𝓖 = 𝓖; 𝓡 = 𝓡 } in closes job w code.env name code.function (walk w) (laid w) (code.unfolded 𝓤 H 𝓜 𝓡)
+    let w : World = record { M = M; 𝓤 = 𝓤; H = H; 𝓜 = 𝓜; 𝓖 = 𝓖; 𝓡 = 𝓡 } in closes job w this.Code.env this.Key.name this.Code.function (walk w) (laid w) (this.Code.unfolded 𝓤 H 𝓜 𝓡)

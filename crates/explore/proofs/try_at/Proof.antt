@@ -1,67 +1,41 @@
 -- `explore::try_at` meets its contract: a walk of its MIR, and what the walk asks.
-use mathlib.Core.Path.{_≡_, refl}
-use mathlib.Core.List.{List, [], _∷_}
-use Prim.Native.Nat.{ℕ, _<_, _≤_}
-use native.Mathlib.Omega.{arith}
-use lib.ListN.{length}
-use package.mir.Syntax.{w64, w32, w8, add, eq, cast, unsigned, field, named, erased, mut, imm}
-use contract.Lifetimes.{Lfts, Shares}
-use contract.Running.{tablesOf}
-use borrow.Table.Row.{Cx, sInt, sBool, sUnit, lease}
-use borrow.Table.Rows.{sc-here}
-use borrow.Rule.Scalar.{After}
-use borrow.Author.Tests.{eqb-true, eqb-false}
-use borrow.Fn.Function.{Γin}
-use borrow.Fn.World.{World}
+use Rattle.walks.proofs.Facts.{_≡_, refl, List, [], _∷_, ℕ, _<_, _≤_, arith, length, eqb-true, eqb-false}
+use Rattle.walks.proofs.Steps.{w64, w32, w8, add, eq, cast, unsigned, field, named, erased, mut, imm, Lfts, Shares, tablesOf, Cx, sInt, sBool, sUnit, lease, sc-here, After, Γin, World, Callee, here, _$_, _then_, _free_, returned, skipped, joined, branches, begins, ends, forgets, n64, n32, n8, flag, fresh, over, same, at, part, lit, puts, does, turns, gone, none, num, num-of, num-lit, calls, is, holds, value-room, val-arg, ptr, kept, mut-all, owed-len, lends, slices, backs, mut-arg, shr-arg, a-lent, shares, shared-len, slices-shared, slice-room, unshares, site, Walked, Laid, closes, Cited, cites}
 use Rattle.store.specs.declared.Node.{Node}
 use Rattle.store.proofs.Types.{byte, node-type}
 use Rattle.store.proofs.Jobs as store-jobs
-use Rattle.store.proofs.put.Symbol as put-def
-use Rattle.store.proofs.put.Met as put-thm
-use Rattle.walks.proofs.Walk.{Callee, now as here, _$_, _then_, _free_, returned, skipped, joined, branches, begins, ends, forgets, n64, n32, n8, flag, fresh, over, same, at, part, lit, puts, does, turns, gone, none, num, num-of, num-lit, calls}
-use Rattle.walks.proofs.Values.{is, holds, value-room, val-arg}
-use Rattle.walks.proofs.Slices.{ptr, kept, mut-all, owed-len, lends, slices, backs, mut-arg, shr-arg, a-lent, shares, shared-len, slices-shared, slice-room, unshares}
-use Rattle.walks.proofs.Meets.{site, Walked, Laid, closes, Cited, cites}
+use Rattle.store.proofs.put as put-fn
 use Rattle.explore.proofs.TurnLaws.{tried-old, tried-full, tried-new}
 use Rattle.explore.proofs.Types.{head-type, next-type, new-of, next-set-of}
 use Rattle.explore.proofs.Jobs as jobs
 use Rattle.explore.proofs.Jobs.{try-at as job}
-use Rattle.explore.proofs.next_at.Symbol as next-def
-use Rattle.explore.proofs.next_at.Met as next-thm
-use Rattle.explore.proofs.turned.Symbol as turned-def
-use Rattle.explore.proofs.turned.Kinds as turned-kinds
-use Rattle.explore.proofs.turned.Reads as turned-reads
-use Rattle.explore.proofs.turned.Met as turned-thm
-use Rattle.explore.proofs.stored.Symbol as stored-def
-use Rattle.explore.proofs.stored.Kinds as stored-kinds
-use Rattle.explore.proofs.stored.Reads as stored-reads
-use Rattle.explore.proofs.stored.Met as stored-thm
-use Rattle.explore.proofs.try_at.Key.{name}
-use Rattle.explore.proofs.try_at.Statement.{statement}
-use Rattle.explore.proofs.try_at.Code as code
+use Rattle.explore.proofs.next_at as next-fn
+use Rattle.explore.proofs.turned as turned-fn
+use Rattle.explore.proofs.stored as stored-fn
+use Rattle.explore.proofs.try_at as this
 
 below : (m n : ℕ) → m ≤ n → (m ≡ n → ⊥) → m < n
 below m n p q = omega arith
 
 module _ (w : World) where
-  next-at : Cited job jobs.next-at w code.env next-def.name
-  next-at = cites job jobs.next-at w code.env next-def.name next-def.routine code.calls-explore·next-at (next-thm.met (w .𝓤) (w .H) (w .𝓜) (w .𝓖) (w .𝓡))
+  next-at : Cited job jobs.next-at w this.Code.env next-fn.Symbol.name
+  next-at = cites job jobs.next-at w this.Code.env next-fn.Symbol.name next-fn.Symbol.routine this.Code.calls-explore·next-at (next-fn.Met.met (w .𝓤) (w .H) (w .𝓜) (w .𝓖) (w .𝓡))
 
-  put : Cited job store-jobs.put w code.env put-def.name
-  put = cites job store-jobs.put w code.env put-def.name put-def.routine code.calls-store·put (put-thm.met (w .𝓤) (w .H) (w .𝓜) (w .𝓖) (w .𝓡))
+  put : Cited job store-jobs.put w this.Code.env put-fn.Symbol.name
+  put = cites job store-jobs.put w this.Code.env put-fn.Symbol.name put-fn.Symbol.routine this.Code.calls-store·put (put-fn.Met.met (w .𝓤) (w .H) (w .𝓜) (w .𝓖) (w .𝓡))
 
-  turned : (bs : List ℕ) → Callee (site job w code.env bs) 0 turned-kinds.ps turned-kinds.r turned-reads.Asked turned-reads.Learnt turned-def.name
-  turned bs = record { known = turned-reads.known w code.env turned-def.name turned-def.routine code.calls-explore·turned (turned-thm.met (w .𝓤) (w .H) (w .𝓜) (w .𝓖) (w .𝓡)) }
+  turned : (bs : List ℕ) → Callee (site job w this.Code.env bs) 0 turned-fn.Kinds.ps turned-fn.Kinds.r turned-fn.Reads.Asked turned-fn.Reads.Learnt turned-fn.Symbol.name
+  turned bs = record { known = turned-fn.Reads.known w this.Code.env turned-fn.Symbol.name turned-fn.Symbol.routine this.Code.calls-explore·turned (turned-fn.Met.met (w .𝓤) (w .H) (w .𝓜) (w .𝓖) (w .𝓡)) }
 
-  stored : (bs : List ℕ) → Callee (site job w code.env bs) 0 stored-kinds.ps stored-kinds.r stored-reads.Asked stored-reads.Learnt stored-def.name
-  stored bs = record { known = stored-reads.known w code.env stored-def.name stored-def.routine code.calls-explore·stored (stored-thm.met (w .𝓤) (w .H) (w .𝓜) (w .𝓖) (w .𝓡)) }
+  stored : (bs : List ℕ) → Callee (site job w this.Code.env bs) 0 stored-fn.Kinds.ps stored-fn.Kinds.r stored-fn.Reads.Asked stored-fn.Reads.Learnt stored-fn.Symbol.name
+  stored bs = record { known = stored-fn.Reads.known w this.Code.env stored-fn.Symbol.name stored-fn.Symbol.routine this.Code.calls-explore·stored (stored-fn.Met.met (w .𝓤) (w .H) (w .𝓜) (w .𝓖) (w .𝓡)) }
 
   -- the context with what the command gave
   module _ (κs : Lfts 2) (qs : Shares 2) where
     abbrev Has-g : Cx
     Has-g = After (Γin 2 (job .ps) (job .r) (job .xs) 1 κs qs) 9 (is next-type)
 
-  abbrev walk : Walked job w code.env code.function
+  abbrev walk : Walked job w this.Code.env this.Code.function
   walk κs qs bs =
       -- next = next_at(head, sheet, &*store, count, i, command)
       begins 2 _ free
@@ -98,7 +72,7 @@ module _ (w : World) where
       gone 1 (value-room head-type) free gone 3 (over (sInt w64)) free gone 5 (over (sInt w64)) free gone 6 (over (sInt w64)) free gone 7 (over (sInt w64)) free gone 8 (over (sInt w64)) free gone 9 (value-room next-type) free
       returned tt)
 
-  laid : Laid job w code.env code.function walk
+  laid : Laid job w this.Code.env this.Code.function walk
   laid κs qs a good pre bs =
       let l : List Node = a .1 .1 .1 .0 .now in
       let room : ℕ = a .1 .1 .1 .1 .0 in
@@ -141,7 +115,7 @@ module _ (w : World) where
         ),
       )
 
-pub try-at-spec : {M : Type 1} → statement M
-unfolding code.routine tablesOf
+pub try-at-spec : {M : Type 1} → this.Statement.statement M
+unfolding this.Code.routine tablesOf
 try-at-spec {M} 𝓤 H 𝓜 𝓖 𝓡 =
-    let w : World = record { M = M; 𝓤 = 𝓤; H = H; 𝓜 = 𝓜; 𝓖 = 𝓖; 𝓡 = 𝓡 } in closes job w code.env name code.function (walk w) (laid w) (code.unfolded 𝓤 H 𝓜 𝓡)
+    let w : World = record { M = M; 𝓤 = 𝓤; H = H; 𝓜 = 𝓜; 𝓖 = 𝓖; 𝓡 = 𝓡 } in closes job w this.Code.env this.Key.name this.Code.function (walk w) (laid w) (this.Code.unfolded 𝓤 H 𝓜 𝓡)

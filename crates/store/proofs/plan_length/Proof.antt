@@ -1,15 +1,6 @@
 -- `store::plan_length` meets its contract: a walk of its MIR, and what the walk asks. The loop keeps how far behind it the place `at` lies.
-use mathlib.Core.Path.{_≡_, refl, ap, sym, subst}
-use mathlib.Core.Logic.{_≢_}
-use mathlib.Core.List.{List, [], _∷_}
-use Prim.Native.Nat.{ℕ, _<_, _+_}
-use native.Mathlib.Omega.{arith}
-use lib.ListN.{length}
-use package.mir.Syntax.{w64, add, ne, cast, unsigned, field, named}
-use contract.Running.{tablesOf}
-use borrow.Table.Row.{sInt, sBool}
-use borrow.Author.Tests.{eqb-true, eqb-false, not-true, not-false}
-use borrow.Fn.World.{World}
+use Rattle.walks.proofs.Facts.{_≡_, refl, ap, sym, subst, _≢_, List, [], _∷_, ℕ, _<_, _+_, arith, length, eqb-true, eqb-false, not-true, not-false}
+use Rattle.walks.proofs.Steps.{w64, add, ne, cast, unsigned, field, named, tablesOf, sInt, sBool, World, _then_, _free_, _with_, returned, last, skipped, left, joined, branches, loops, n64, flag, fresh, over, at, part, lit, puts, does, turns, gone, none, num, calls, shr-arg, a-lent, value-room, Walked, Laid, closes, Cited, cites}
 use Rattle.store.specs.declared.Node.{Node}
 use Rattle.store.specs.Nodes.{nodeAt}
 use Rattle.store.proofs.Node.{the-row}
@@ -17,21 +8,14 @@ use Rattle.store.proofs.PathLaws.{Behind, behind-start, behind-there, b
 use Rattle.store.proofs.Jobs as jobs
 use Rattle.store.proofs.Jobs.{plan-length as job}
 use Rattle.store.proofs.Types.{node-type, parent-of}
-use Rattle.store.proofs.node_at.Symbol as at-def
-use Rattle.store.proofs.node_at.Met as at-thm
-use Rattle.walks.proofs.Walk.{_then_, _free_, _with_, returned, last, skipped, left, joined, branches, loops, n64, flag, fresh, over, at, part, lit, puts, does, turns, gone, none, num, calls}
-use Rattle.walks.proofs.Slices.{shr-arg, a-lent}
-use Rattle.walks.proofs.Values.{value-room}
-use Rattle.walks.proofs.Meets.{Walked, Laid, closes, Cited, cites}
-use Rattle.store.proofs.plan_length.Key.{name}
-use Rattle.store.proofs.plan_length.Statement.{statement}
-use Rattle.store.proofs.plan_length.Code as code
+use Rattle.store.proofs.node_at as at-fn
+use Rattle.store.proofs.plan_length as this
 
 module _ (w : World) where
-  node-at : Cited job jobs.node-at w code.env at-def.name
-  node-at = cites job jobs.node-at w code.env at-def.name at-def.routine code.calls-store·node-at (at-thm.met (w .𝓤) (w .H) (w .𝓜) (w .𝓖) (w .𝓡))
+  node-at : Cited job jobs.node-at w this.Code.env at-fn.Symbol.name
+  node-at = cites job jobs.node-at w this.Code.env at-fn.Symbol.name at-fn.Symbol.routine this.Code.calls-store·node-at (at-fn.Met.met (w .𝓤) (w .H) (w .𝓜) (w .𝓖) (w .𝓡))
 
-  abbrev walk : Walked job w code.env code.function
+  abbrev walk : Walked job w this.Code.env this.Code.function
   walk κs qs bs =
       puts 3 (sInt w64) (at 2 n64 refl) fresh refl (λ u. refl) (λ u. tt) then
       puts 4 (sInt w64) (lit w64 0 tt) fresh refl (λ u. refl) (λ u. tt) then
@@ -50,7 +34,7 @@ module _ (w : World) where
       gone 2 (over (sInt w64)) free gone 3 (over (sInt w64)) free gone 4 (over (sInt w64)) free
       returned tt)
 
-  laid : Laid job w code.env code.function walk
+  laid : Laid job w this.Code.env this.Code.function walk
   laid κs qs a good pre bs =
       let l : List Node = a .0 .now in
       let k : ℕ = a .1 .0 in (
@@ -76,7 +60,7 @@ module _ (w : World) where
             ),
       )
 
-pub plan-length-spec : {M : Type 1} → statement M
-unfolding code.routine tablesOf
+pub plan-length-spec : {M : Type 1} → this.Statement.statement M
+unfolding this.Code.routine tablesOf
 plan-length-spec {M} 𝓤 H 𝓜 𝓖 𝓡 =
-    let w : World = record { M = M; 𝓤 = 𝓤; H = H; 𝓜 = 𝓜; 𝓖 = 𝓖; 𝓡 = 𝓡 } in closes job w code.env name code.function (walk w) (laid w) (code.unfolded 𝓤 H 𝓜 𝓡)
+    let w : World = record { M = M; 𝓤 = 𝓤; H = H; 𝓜 = 𝓜; 𝓖 = 𝓖; 𝓡 = 𝓡 } in closes job w this.Code.env this.Key.name this.Code.function (walk w) (laid w) (this.Code.unfolded 𝓤 H 𝓜 𝓡)

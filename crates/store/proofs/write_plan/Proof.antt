@@ -1,20 +1,6 @@
 -- `store::write_plan` meets its contract: a walk of its MIR, and what the walk asks. The loop keeps what is written and what is left to write.
-use mathlib.Core.Path.{_≡_, refl, sym, subst}
-use mathlib.Core.Logic.{_≢_}
-use mathlib.Core.List.{List, [], _∷_}
-use Prim.Native.Nat.{ℕ, _<_, _≤_, _-_}
-use native.Mathlib.Omega.{arith}
-use lib.ListN.{length}
-use package.mir.Syntax.{w64, sub, ne, cast, unsigned, field, named, erased, mut}
-use contract.Lifetimes.{Lfts, Shares}
-use contract.Running.{tablesOf}
-use borrow.Table.Row.{Cx, Row, sInt, sBool, sUnit, lease}
-use borrow.Table.Rows.{sc-here}
-use borrow.Rule.Scalar.{After}
-use borrow.Rule.Slice.Mut.{setVals}
-use borrow.Author.Tests.{eqb-true, eqb-false, not-true, not-false}
-use borrow.Fn.Function.{Γin}
-use borrow.Fn.World.{World}
+use Rattle.walks.proofs.Facts.{_≡_, refl, sym, subst, _≢_, List, [], _∷_, ℕ, _<_, _≤_, _-_, arith, length, eqb-true, eqb-false, not-true, not-false}
+use Rattle.walks.proofs.Steps.{w64, sub, ne, cast, unsigned, field, named, erased, mut, Lfts, Shares, tablesOf, Cx, Row, sInt, sBool, sUnit, lease, sc-here, After, setVals, Γin, World, Callee, here, _$_, _then_, _free_, _with_, returned, last, skipped, left, joined, branches, loops, begins, ends, forgets, n64, flag, fresh, over, same, at, part, lit, unit, puts, does, turns, gone, none, num, num-of, calls, ptr, kept, mut-all, owed-len, lends, slices, backs, mut-arg, shr-arg, a-lent, is, value-room, site, Walked, Laid, closes, Cited, cites}
 use Rattle.store.specs.declared.Node.{Node}
 use Rattle.store.specs.Nodes.{nodeAt}
 use Rattle.store.proofs.Node.{the-row}
@@ -22,19 +8,9 @@ use Rattle.store.proofs.PathLaws.{Writing, writing-start, writing-there
 use Rattle.store.proofs.Jobs as jobs
 use Rattle.store.proofs.Jobs.{write-plan as job}
 use Rattle.store.proofs.Types.{byte, node-type, parent-of, command-of}
-use Rattle.store.proofs.node_at.Symbol as at-def
-use Rattle.store.proofs.node_at.Met as at-thm
-use Rattle.store.proofs.put_command.Symbol as put-def
-use Rattle.store.proofs.put_command.Kinds as put-kinds
-use Rattle.store.proofs.put_command.Reads as put-reads
-use Rattle.store.proofs.put_command.Met as put-thm
-use Rattle.walks.proofs.Walk.{Callee, now as here, _$_, _then_, _free_, _with_, returned, last, skipped, left, joined, branches, loops, begins, ends, forgets, n64, flag, fresh, over, same, at, part, lit, unit, puts, does, turns, gone, none, num, num-of, calls}
-use Rattle.walks.proofs.Slices.{ptr, kept, mut-all, owed-len, lends, slices, backs, mut-arg, shr-arg, a-lent}
-use Rattle.walks.proofs.Values.{is, value-room}
-use Rattle.walks.proofs.Meets.{site, Walked, Laid, closes, Cited, cites}
-use Rattle.store.proofs.write_plan.Key.{name}
-use Rattle.store.proofs.write_plan.Statement.{statement}
-use Rattle.store.proofs.write_plan.Code as code
+use Rattle.store.proofs.node_at as at-fn
+use Rattle.store.proofs.put_command as put-fn
+use Rattle.store.proofs.write_plan as this
 
 abbrev u64 : Row
 u64 = sc-here (sInt w64)
@@ -49,11 +25,11 @@ parent-below : (l : List Node) (i : ℕ) (m : Node) → m ≡ nodeAt l i → nod
 parent-below l i m e h = subst (λ (n : Node). n .parent < i) (sym e) h
 
 module _ (w : World) where
-  node-at : Cited job jobs.node-at w code.env at-def.name
-  node-at = cites job jobs.node-at w code.env at-def.name at-def.routine code.calls-store·node-at (at-thm.met (w .𝓤) (w .H) (w .𝓜) (w .𝓖) (w .𝓡))
+  node-at : Cited job jobs.node-at w this.Code.env at-fn.Symbol.name
+  node-at = cites job jobs.node-at w this.Code.env at-fn.Symbol.name at-fn.Symbol.routine this.Code.calls-store·node-at (at-fn.Met.met (w .𝓤) (w .H) (w .𝓜) (w .𝓖) (w .𝓡))
 
-  put-command : (bs : List ℕ) → Callee (site job w code.env bs) 1 put-kinds.ps put-kinds.r put-reads.Asked put-reads.Learnt put-def.name
-  put-command bs = record { known = put-reads.known w code.env put-def.name put-def.routine code.calls-store·put-command (put-thm.met (w .𝓤) (w .H) (w .𝓜) (w .𝓖) (w .𝓡)) }
+  put-command : (bs : List ℕ) → Callee (site job w this.Code.env bs) 1 put-fn.Kinds.ps put-fn.Kinds.r put-fn.Reads.Asked put-fn.Reads.Learnt put-fn.Symbol.name
+  put-command bs = record { known = put-fn.Reads.known w this.Code.env put-fn.Symbol.name put-fn.Symbol.routine this.Code.calls-store·put-command (put-fn.Met.met (w .𝓤) (w .H) (w .𝓜) (w .𝓖) (w .𝓡)) }
 
   -- the contexts: at the loop's head, and with the record
   module _ (κs : Lfts 2) (qs : Shares 2) where
@@ -63,7 +39,7 @@ module _ (w : World) where
     abbrev Has-n : Cx
     Has-n = After Hd 7 (is node-type)
 
-  abbrev walk : Walked job w code.env code.function
+  abbrev walk : Walked job w this.Code.env this.Code.function
   walk κs qs bs =
       puts 5 (sInt w64) (at 2 n64 refl) fresh refl (λ u. refl) (λ u. tt) then
       puts 6 (sInt w64) (at 4 n64 refl) fresh refl (λ u. refl) (λ u. tt) then
@@ -89,7 +65,7 @@ module _ (w : World) where
       gone 2 (over (sInt w64)) free gone 4 (over (sInt w64)) free gone 5 (over (sInt w64)) free gone 6 (over (sInt w64)) free
       returned tt)
 
-  laid : Laid job w code.env code.function walk
+  laid : Laid job w this.Code.env this.Code.function walk
   laid κs qs a good pre bs =
       let l : List Node = a .0 .now in
       let k : ℕ = a .1 .0 in
@@ -122,7 +98,7 @@ module _ (w : World) where
             ),
       )
 
-pub write-plan-spec : {M : Type 1} → statement M
-unfolding code.routine tablesOf
+pub write-plan-spec : {M : Type 1} → this.Statement.statement M
+unfolding this.Code.routine tablesOf
 write-plan-spec {M} 𝓤 H 𝓜 𝓖 𝓡 =
-    let w : World = record { M = M; 𝓤 = 𝓤; H = H; 𝓜 = 𝓜; 𝓖 = 𝓖; 𝓡 = 𝓡 } in closes job w code.env name code.function (walk w) (laid w) (code.unfolded 𝓤 H 𝓜 𝓡)
+    let w : World = record { M = M; 𝓤 = 𝓤; H = H; 𝓜 = 𝓜; 𝓖 = 𝓖; 𝓡 = 𝓡 } in closes job w this.Code.env this.Key.name this.Code.function (walk w) (laid w) (this.Code.unfolded 𝓤 H 𝓜 𝓡)
