@@ -11,10 +11,9 @@ pub use borrow.Rule.Slice.Mut.{setVals}
 pub use borrow.Rule.Array.Rows.{arrF}
 pub use borrow.Kind.MutSlice.{pMutS}
 pub use borrow.Kind.ShrSlice.{pShrS}
-pub use borrow.Fn.Function.{Γin}
 pub use borrow.Fn.World.{World}
-pub use Rattle.walks.proofs.Walk.{_then_, _free_, returned, n64, fresh, over, same, at, part, lit, does, gone, _with_, last, skipped, left, joined, branches, loops, flag, puts, none, num, calls, turns, n32, n8, unit, now as here, _$_, begins, ends, forgets, Callee, num-of, num-lit, big}
+pub use Rattle.walks.proofs.Walk.{_then_, _free_, returned, n64, fresh, over, same, at, part, lit, does, gone, _with_, last, skipped, left, joined, branches, loops, flag, puts, none, num, calls, turns, n32, n8, unit, now as here, _$_, begins, ends, forgets, Callee, num-of, num-lit, big, u64}
 pub use Rattle.walks.proofs.Values.{holds, value-room, copies-value, makes-struct, _&_, nil, is, val-arg, tyOf, result}
 pub use Rattle.walks.proofs.Slices.{ptr, shr-ptr, shr-arg, a-lent, kept, mut-ptr, mut-len, mut-all, owed-len, lends, slices, backs, mut-arg, shares, shared-len, slices-shared, slice-room, unshares}
 pub use Rattle.walks.proofs.Elements.{fetches, stores, arr-ptr, arr-room, fills, as-array, lends-array, backs-array}
-pub use Rattle.walks.proofs.Meets.{Walked, Laid, closes, Cited, cites, site, Job}
+pub use Rattle.walks.proofs.Meets.{Walked, Laid, meets, Cited, cites, site, Job, begun, world}

@@ -1,6 +1,6 @@
 -- `explore::expand` meets its contract: a walk of its MIR, and what the walk asks. Each turn of the loop is a law of `TurnLaws`.
 use Rattle.walks.proofs.Facts.{refl, _∙_, List, [], _∷_, ℕ, _<_, _≤_, _+_, _-_, arith, ltb-true, ltb-false, eqb-true, eqb-false, not-true, not-false}
-use Rattle.walks.proofs.Steps.{w64, w8, add, lt, ne, unsigned, field, named, erased, mut, Lfts, Shares, tablesOf, Cx, Row, sInt, sBool, lease, sc-here, After, setVals, Γin, World, Callee, here, _$_, _then_, _free_, _with_, returned, last, skipped, left, joined, branches, loops, begins, ends, forgets, n64, flag, fresh, over, same, at, part, lit, puts, does, gone, none, num, num-lit, calls, is, holds, value-room, val-arg, copies-value, ptr, kept, mut-all, owed-len, lends, slices, backs, mut-arg, shr-arg, a-lent, site, Walked, Laid, closes, Cited, cites}
+use Rattle.walks.proofs.Steps.{w64, w8, add, lt, ne, unsigned, field, named, erased, mut, Lfts, Shares, tablesOf, Cx, sInt, sBool, lease, After, setVals, World, Callee, here, _$_, _then_, _free_, _with_, returned, last, skipped, left, joined, branches, loops, begins, ends, forgets, n64, flag, fresh, over, same, at, part, lit, puts, does, gone, none, num, num-lit, calls, is, holds, value-room, val-arg, copies-value, ptr, kept, mut-all, owed-len, lends, slices, backs, mut-arg, shr-arg, a-lent, site, Walked, Laid, meets, Cited, cites, begun, world, u64}
 use Rattle.follow.specs.Following.{domainBy}
 use Rattle.store.specs.declared.Node.{Node}
 use Rattle.store.specs.Nodes.{setAt}
@@ -13,9 +13,6 @@ use Rattle.explore.proofs.try_at as try-fn
 use Rattle.explore.proofs.turned as turned-fn
 use Rattle.explore.proofs.expand as this
 
-abbrev u64 : Row
-u64 = sc-here (sInt w64)
-
 module _ (w : World) where
   try-at : Cited job jobs.try-at w this.Code.env try-fn.Symbol.name
   try-at = cites job jobs.try-at w this.Code.env try-fn.Symbol.name try-fn.Symbol.routine this.Code.calls-explore·try-at (try-fn.Met.met (w .𝓤) (w .H) (w .𝓜) (w .𝓖) (w .𝓡))
@@ -26,7 +23,7 @@ module _ (w : World) where
   -- the contexts: at the loop's head, and with what a try said
   module _ (κs : Lfts 2) (qs : Shares 2) where
     abbrev Hd : Cx
-    Hd = After (After (Γin 2 (job .ps) (job .r) (job .xs) 1 κs qs) 8 u64) 9 u64
+    Hd = After (After (begun job κs qs) 8 u64) 9 u64
 
     abbrev Has-t : Cx
     Has-t = After Hd 10 (is turn-type)
@@ -95,5 +92,4 @@ module _ (w : World) where
 
 pub expand-spec : {M : Type 1} → this.Statement.statement M
 unfolding this.Code.routine tablesOf
-expand-spec {M} 𝓤 H 𝓜 𝓖 𝓡 =
-    let w : World = record { M = M; 𝓤 = 𝓤; H = H; 𝓜 = 𝓜; 𝓖 = 𝓖; 𝓡 = 𝓡 } in closes job w this.Code.env this.Key.name this.Code.function (walk w) (laid w) (this.Code.unfolded 𝓤 H 𝓜 𝓡)
+expand-spec 𝓤 H 𝓜 𝓖 𝓡 = meets job this.Code.env this.Key.name this.Code.function walk laid (world 𝓤 H 𝓜 𝓖 𝓡) (this.Code.unfolded 𝓤 H 𝓜 𝓡)

@@ -1,6 +1,6 @@
 -- `explore::explore` meets its contract: a walk of its MIR, and what the walk asks.
 use Rattle.walks.proofs.Facts.{_≡_, refl, _∙_, List, [], _∷_, ℕ, _<_, _≤_, arith, lit<, length, eqb-true, eqb-false, not-true, not-false}
-use Rattle.walks.proofs.Steps.{w64, w8, eq, ne, field, named, erased, mut, Lfts, Shares, tablesOf, Cx, sInt, sBool, sUnit, lease, sc-here, After, Γin, World, Callee, here, _$_, _then_, _free_, returned, skipped, joined, branches, begins, ends, forgets, n64, flag, fresh, over, same, at, part, lit, puts, does, gone, none, num, num-lit, calls, is, holds, value-room, val-arg, copies-value, ptr, kept, mut-len, mut-all, owed-len, lends, slices, backs, mut-arg, shr-arg, a-lent, site, Walked, Laid, closes, Cited, cites}
+use Rattle.walks.proofs.Steps.{w64, w8, eq, ne, field, named, erased, mut, Lfts, Shares, tablesOf, Cx, sInt, sBool, sUnit, lease, After, World, Callee, here, _$_, _then_, _free_, returned, skipped, joined, branches, begins, ends, forgets, n64, flag, fresh, over, same, at, part, lit, puts, does, gone, none, num, num-lit, calls, is, holds, value-room, val-arg, copies-value, ptr, kept, mut-len, mut-all, owed-len, lends, slices, backs, mut-arg, shr-arg, a-lent, site, Walked, Laid, meets, Cited, cites, begun, world, u64}
 use Rattle.store.specs.declared.Node.{Node}
 use Rattle.store.proofs.Types.{byte, node-type}
 use Rattle.store.proofs.Jobs as store-jobs
@@ -38,7 +38,7 @@ module _ (w : World) where
   -- the contexts: with the room, and with the goal test
   module _ (κs : Lfts 2) (qs : Shares 2) where
     abbrev Has-room : Cx
-    Has-room = After (Γin 2 (job .ps) (job .r) (job .xs) 1 κs qs) 6 (sc-here (sInt w64))
+    Has-room = After (begun job κs qs) 6 u64
 
     abbrev Has-t : Cx
     Has-t = After Has-room 7 (is turn-type)
@@ -118,5 +118,4 @@ module _ (w : World) where
 
 pub explore-spec : {M : Type 1} → this.Statement.statement M
 unfolding this.Code.routine tablesOf
-explore-spec {M} 𝓤 H 𝓜 𝓖 𝓡 =
-    let w : World = record { M = M; 𝓤 = 𝓤; H = H; 𝓜 = 𝓜; 𝓖 = 𝓖; 𝓡 = 𝓡 } in closes job w this.Code.env this.Key.name this.Code.function (walk w) (laid w) (this.Code.unfolded 𝓤 H 𝓜 𝓡)
+explore-spec 𝓤 H 𝓜 𝓖 𝓡 = meets job this.Code.env this.Key.name this.Code.function walk laid (world 𝓤 H 𝓜 𝓖 𝓡) (this.Code.unfolded 𝓤 H 𝓜 𝓡)

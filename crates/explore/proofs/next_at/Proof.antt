@@ -1,6 +1,6 @@
 -- `explore::next_at` meets its contract: a walk of its MIR, and what the walk asks.
 use Rattle.walks.proofs.Facts.{refl, List, [], _∷_, ℕ, arith}
-use Rattle.walks.proofs.Steps.{w64, field, named, Lfts, Shares, tablesOf, Cx, Row, sInt, sBool, sc-here, After, Γin, World, Callee, here, _$_, _then_, _free_, returned, skipped, joined, branches, n64, flag, fresh, over, gone, none, num, num-of, calls, is, holds, value-room, val-arg, shr-arg, a-lent, site, Walked, Laid, closes, Cited, cites}
+use Rattle.walks.proofs.Steps.{w64, field, named, Lfts, Shares, tablesOf, Cx, sInt, sBool, sc-here, After, World, Callee, here, _$_, _then_, _free_, returned, skipped, joined, branches, n64, flag, fresh, over, gone, none, num, num-of, calls, is, holds, value-room, val-arg, shr-arg, a-lent, site, Walked, Laid, meets, Cited, cites, begun, world, u64}
 use Rattle.meaning.specs.Domain.{Domain}
 use Rattle.follow.specs.Following.{domainBy}
 use Rattle.follow.proofs.sendable as sendable-fn
@@ -16,9 +16,6 @@ use Rattle.explore.proofs.Jobs.{next-at as job}
 use Rattle.explore.proofs.looked_up as looked-fn
 use Rattle.explore.proofs.nothing_new as nothing-fn
 use Rattle.explore.proofs.next_at as this
-
-abbrev u64 : Row
-u64 = sc-here (sInt w64)
 
 module _ (w : World) where
   node-at : Cited job store-jobs.node-at w this.Code.env at-fn.Symbol.name
@@ -42,7 +39,7 @@ module _ (w : World) where
   -- the contexts: with the record, with the test, with the set, and with its place
   module _ (κs : Lfts 2) (qs : Shares 2) where
     abbrev Has-n : Cx
-    Has-n = After (Γin 2 (job .ps) (job .r) (job .xs) 0 κs qs) 7 (is node-type)
+    Has-n = After (begun job κs qs) 7 (is node-type)
 
     abbrev Has-b : Cx
     Has-b = After Has-n 10 (sc-here sBool)
@@ -88,5 +85,4 @@ module _ (w : World) where
 
 pub next-at-spec : {M : Type 1} → this.Statement.statement M
 unfolding this.Code.routine tablesOf
-next-at-spec {M} 𝓤 H 𝓜 𝓖 𝓡 =
-    let w : World = record { M = M; 𝓤 = 𝓤; H = H; 𝓜 = 𝓜; 𝓖 = 𝓖; 𝓡 = 𝓡 } in closes job w this.Code.env this.Key.name this.Code.function (walk w) (laid w) (this.Code.unfolded 𝓤 H 𝓜 𝓡)
+next-at-spec 𝓤 H 𝓜 𝓖 𝓡 = meets job this.Code.env this.Key.name this.Code.function walk laid (world 𝓤 H 𝓜 𝓖 𝓡) (this.Code.unfolded 𝓤 H 𝓜 𝓡)

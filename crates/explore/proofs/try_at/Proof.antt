@@ -1,6 +1,6 @@
 -- `explore::try_at` meets its contract: a walk of its MIR, and what the walk asks.
 use Rattle.walks.proofs.Facts.{_≡_, refl, List, [], _∷_, ℕ, _<_, _≤_, arith, length, eqb-true, eqb-false}
-use Rattle.walks.proofs.Steps.{w64, w32, w8, add, eq, cast, unsigned, field, named, erased, mut, imm, Lfts, Shares, tablesOf, Cx, sInt, sBool, sUnit, lease, sc-here, After, Γin, World, Callee, here, _$_, _then_, _free_, returned, skipped, joined, branches, begins, ends, forgets, n64, n32, n8, flag, fresh, over, same, at, part, lit, puts, does, turns, gone, none, num, num-of, num-lit, calls, is, holds, value-room, val-arg, ptr, kept, mut-all, owed-len, lends, slices, backs, mut-arg, shr-arg, a-lent, shares, shared-len, slices-shared, slice-room, unshares, site, Walked, Laid, closes, Cited, cites}
+use Rattle.walks.proofs.Steps.{w64, w32, w8, add, eq, cast, unsigned, field, named, erased, mut, imm, Lfts, Shares, tablesOf, Cx, sInt, sBool, sUnit, lease, sc-here, After, World, Callee, here, _$_, _then_, _free_, returned, skipped, joined, branches, begins, ends, forgets, n64, n32, n8, flag, fresh, over, same, at, part, lit, puts, does, turns, gone, none, num, num-of, num-lit, calls, is, holds, value-room, val-arg, ptr, kept, mut-all, owed-len, lends, slices, backs, mut-arg, shr-arg, a-lent, shares, shared-len, slices-shared, slice-room, unshares, site, Walked, Laid, meets, Cited, cites, begun, world}
 use Rattle.store.specs.declared.Node.{Node}
 use Rattle.store.proofs.Types.{byte, node-type}
 use Rattle.store.proofs.Jobs as store-jobs
@@ -31,9 +31,8 @@ module _ (w : World) where
   stored bs = record { known = stored-fn.Reads.known w this.Code.env stored-fn.Symbol.name stored-fn.Symbol.routine this.Code.calls-explore·stored (stored-fn.Met.met (w .𝓤) (w .H) (w .𝓜) (w .𝓖) (w .𝓡)) }
 
   -- the context with what the command gave
-  module _ (κs : Lfts 2) (qs : Shares 2) where
-    abbrev Has-g : Cx
-    Has-g = After (Γin 2 (job .ps) (job .r) (job .xs) 1 κs qs) 9 (is next-type)
+  abbrev Has-g : (κs : Lfts 2) (qs : Shares 2) → Cx
+  Has-g κs qs = After (begun job κs qs) 9 (is next-type)
 
   abbrev walk : Walked job w this.Code.env this.Code.function
   walk κs qs bs =
@@ -117,5 +116,4 @@ module _ (w : World) where
 
 pub try-at-spec : {M : Type 1} → this.Statement.statement M
 unfolding this.Code.routine tablesOf
-try-at-spec {M} 𝓤 H 𝓜 𝓖 𝓡 =
-    let w : World = record { M = M; 𝓤 = 𝓤; H = H; 𝓜 = 𝓜; 𝓖 = 𝓖; 𝓡 = 𝓡 } in closes job w this.Code.env this.Key.name this.Code.function (walk w) (laid w) (this.Code.unfolded 𝓤 H 𝓜 𝓡)
+try-at-spec 𝓤 H 𝓜 𝓖 𝓡 = meets job this.Code.env this.Key.name this.Code.function walk laid (world 𝓤 H 𝓜 𝓖 𝓡) (this.Code.unfolded 𝓤 H 𝓜 𝓡)

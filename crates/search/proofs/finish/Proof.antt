@@ -1,6 +1,6 @@
 -- `search::finish` meets its contract: a walk of its MIR, and what the walk asks.
 use Rattle.walks.proofs.Facts.{_≡_, refl, ap, _∙_, List, [], _∷_, ℕ, eqb-true, eqb-false, not-true, not-false}
-use Rattle.walks.proofs.Steps.{w64, w8, sub, ne, unsigned, field, named, erased, mut, Lfts, Shares, tablesOf, Cx, Row, sInt, sBool, lease, sc-here, After, Γin, World, Callee, here, _$_, _then_, _free_, returned, skipped, joined, branches, begins, ends, forgets, n64, flag, fresh, over, same, part, lit, puts, does, gone, none, num, num-of, calls, holds, value-room, val-arg, ptr, kept, mut-len, mut-all, owed-len, lends, slices, backs, mut-arg, shr-arg, a-lent, site, Walked, Laid, closes, Cited, cites}
+use Rattle.walks.proofs.Steps.{w64, w8, sub, ne, unsigned, field, named, erased, mut, Lfts, Shares, tablesOf, Cx, sInt, sBool, lease, After, World, Callee, here, _$_, _then_, _free_, returned, skipped, joined, branches, begins, ends, forgets, n64, flag, fresh, over, same, part, lit, puts, does, gone, none, num, num-of, calls, holds, value-room, val-arg, ptr, kept, mut-len, mut-all, owed-len, lends, slices, backs, mut-arg, shr-arg, a-lent, site, Walked, Laid, meets, Cited, cites, begun, world, u64}
 use Rattle.store.proofs.Types.{byte, node-type}
 use Rattle.store.proofs.Jobs as store-jobs
 use Rattle.store.proofs.read_back as back-fn
@@ -11,9 +11,6 @@ use Rattle.search.proofs.Jobs.{finish as job}
 use Rattle.search.proofs.without_plan as without-fn
 use Rattle.search.proofs.with_plan as with-fn
 use Rattle.search.proofs.finish as this
-
-abbrev u64 : Row
-u64 = sc-here (sInt w64)
 
 module _ (w : World) where
   read-back : Cited job store-jobs.read-back w this.Code.env back-fn.Symbol.name
@@ -27,11 +24,8 @@ module _ (w : World) where
 
   -- the contexts: at the start, with the last place, and with the length
   module _ (κs : Lfts 2) (qs : Shares 2) where
-    abbrev Begun : Cx
-    Begun = Γin 2 (job .ps) (job .r) (job .xs) 1 κs qs
-
     abbrev Has-at : Cx
-    Has-at = After Begun 4 u64
+    Has-at = After (begun job κs qs) 4 u64
 
     abbrev Has-n : Cx
     Has-n = After Has-at 5 u64
@@ -39,8 +33,8 @@ module _ (w : World) where
   abbrev walk : Walked job w this.Code.env this.Code.function
   walk κs qs bs =
       does 6 sBool ne (part 2 (field 0 ∷ []) kind-of refl) (lit w8 0 tt) fresh refl (λ u. refl) (λ u. tt) then
-      joined (Begun κs qs) (branches 6 flag refl (
-      gone 6 (over sBool) free here (Begun κs qs) $
+      joined (begun job κs qs) (branches 6 flag refl (
+      gone 6 (over sBool) free here (begun job κs qs) $
       calls (without-plan bs) [] 0 (val-arg turn-type 2 [] (holds turn-type) refl none) fresh tt refl then
       gone 2 (value-room turn-type) free
       returned tt) (gone 6 (over sBool) free skipped tt)) (
@@ -73,5 +67,4 @@ module _ (w : World) where
 
 pub finish-spec : {M : Type 1} → this.Statement.statement M
 unfolding this.Code.routine tablesOf
-finish-spec {M} 𝓤 H 𝓜 𝓖 𝓡 =
-    let w : World = record { M = M; 𝓤 = 𝓤; H = H; 𝓜 = 𝓜; 𝓖 = 𝓖; 𝓡 = 𝓡 } in closes job w this.Code.env this.Key.name this.Code.function (walk w) (laid w) (this.Code.unfolded 𝓤 H 𝓜 𝓡)
+finish-spec 𝓤 H 𝓜 𝓖 𝓡 = meets job this.Code.env this.Key.name this.Code.function walk laid (world 𝓤 H 𝓜 𝓖 𝓡) (this.Code.unfolded 𝓤 H 𝓜 𝓡)

@@ -1,6 +1,6 @@
 -- `search::search` meets its contract: a walk of its MIR, and what the walk asks.
 use Rattle.walks.proofs.Facts.{_≡_, refl, sym, _∙_, false, List, [], _∷_, ℕ}
-use Rattle.walks.proofs.Steps.{field, named, erased, mut, Lfts, Shares, tablesOf, Cx, sBool, lease, sc-here, After, Γin, World, Callee, here, _$_, _then_, _free_, returned, skipped, joined, branches, begins, ends, forgets, flag, fresh, over, same, part, gone, none, num-of, calls, is, holds, value-room, val-arg, ptr, kept, mut-all, owed-len, lends, slices, backs, mut-arg, shr-arg, a-lent, site, Walked, Laid, closes, Cited, cites}
+use Rattle.walks.proofs.Steps.{field, named, erased, mut, Lfts, Shares, tablesOf, Cx, sBool, lease, sc-here, After, World, Callee, here, _$_, _then_, _free_, returned, skipped, joined, branches, begins, ends, forgets, flag, fresh, over, same, part, gone, none, num-of, calls, is, holds, value-room, val-arg, ptr, kept, mut-all, owed-len, lends, slices, backs, mut-arg, shr-arg, a-lent, site, Walked, Laid, meets, Cited, cites, begun, world}
 use Rattle.sheet.proofs.read as read-fn
 use Rattle.store.proofs.Types.{byte, node-type}
 use Rattle.explore.proofs.Types.{head-type}
@@ -33,14 +33,11 @@ module _ (w : World) where
 
   -- the contexts: with the reading, and with the head
   module _ (κs : Lfts 3) (qs : Shares 3) where
-    abbrev Begun : Cx
-    Begun = Γin 3 (job .ps) (job .r) (job .xs) 2 κs qs
-
     abbrev Has-r : Cx
-    Has-r = After Begun 4 (is reading-type)
+    Has-r = After (begun job κs qs) 4 (is reading-type)
 
     abbrev Has-h : Cx
-    Has-h = After Begun 5 (is head-type)
+    Has-h = After (begun job κs qs) 5 (is head-type)
 
   abbrev walk : Walked job w this.Code.env this.Code.function
   walk κs qs bs =
@@ -84,5 +81,4 @@ module _ (w : World) where
 
 pub search-spec : {M : Type 1} → this.Statement.statement M
 unfolding this.Code.routine tablesOf
-search-spec {M} 𝓤 H 𝓜 𝓖 𝓡 =
-    let w : World = record { M = M; 𝓤 = 𝓤; H = H; 𝓜 = 𝓜; 𝓖 = 𝓖; 𝓡 = 𝓡 } in closes job w this.Code.env this.Key.name this.Code.function (walk w) (laid w) (this.Code.unfolded 𝓤 H 𝓜 𝓡)
+search-spec 𝓤 H 𝓜 𝓖 𝓡 = meets job this.Code.env this.Key.name this.Code.function walk laid (world 𝓤 H 𝓜 𝓖 𝓡) (this.Code.unfolded 𝓤 H 𝓜 𝓡)

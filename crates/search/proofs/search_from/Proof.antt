@@ -1,6 +1,6 @@
 -- `search::search_from` meets its contract: a walk of its MIR, and what the walk asks.
 use Rattle.walks.proofs.Facts.{refl, [], _∷_}
-use Rattle.walks.proofs.Steps.{w64, field, named, erased, mut, imm, Lfts, Shares, tablesOf, Cx, sInt, lease, After, Γin, World, here, _$_, _then_, _free_, returned, begins, ends, forgets, n64, fresh, over, same, part, gone, none, num, calls, is, holds, value-room, val-arg, ptr, kept, mut-all, owed-len, lends, slices, backs, mut-arg, shr-arg, a-lent, shares, shared-len, slices-shared, slice-room, unshares, Walked, Laid, closes, Cited, cites}
+use Rattle.walks.proofs.Steps.{w64, field, named, erased, mut, imm, Lfts, Shares, tablesOf, Cx, sInt, lease, After, World, here, _$_, _then_, _free_, returned, begins, ends, forgets, n64, fresh, over, same, part, gone, none, num, calls, is, holds, value-room, val-arg, ptr, kept, mut-all, owed-len, lends, slices, backs, mut-arg, shr-arg, a-lent, shares, shared-len, slices-shared, slice-room, unshares, Walked, Laid, meets, Cited, cites, begun, world}
 use Rattle.store.proofs.Types.{byte, node-type}
 use Rattle.explore.proofs.Types.{head-type, turn-type}
 use Rattle.explore.proofs.Jobs as explore-jobs
@@ -19,9 +19,8 @@ module _ (w : World) where
   finish = cites job jobs.finish w this.Code.env finish-fn.Symbol.name finish-fn.Symbol.routine this.Code.calls-search·finish (finish-fn.Met.met (w .𝓤) (w .H) (w .𝓜) (w .𝓖) (w .𝓡))
 
   -- the context with how the search ended
-  module _ (κs : Lfts 3) (qs : Shares 3) where
-    abbrev Has-t : Cx
-    Has-t = After (Γin 3 (job .ps) (job .r) (job .xs) 2 κs qs) 7 (is turn-type)
+  abbrev Has-t : (κs : Lfts 3) (qs : Shares 3) → Cx
+  Has-t κs qs = After (begun job κs qs) 7 (is turn-type)
 
   abbrev walk : Walked job w this.Code.env this.Code.function
   walk κs qs bs =
@@ -50,5 +49,4 @@ module _ (w : World) where
 
 pub search-from-spec : {M : Type 1} → this.Statement.statement M
 unfolding this.Code.routine tablesOf
-search-from-spec {M} 𝓤 H 𝓜 𝓖 𝓡 =
-    let w : World = record { M = M; 𝓤 = 𝓤; H = H; 𝓜 = 𝓜; 𝓖 = 𝓖; 𝓡 = 𝓡 } in closes job w this.Code.env this.Key.name this.Code.function (walk w) (laid w) (this.Code.unfolded 𝓤 H 𝓜 𝓡)
+search-from-spec 𝓤 H 𝓜 𝓖 𝓡 = meets job this.Code.env this.Key.name this.Code.function walk laid (world 𝓤 H 𝓜 𝓖 𝓡) (this.Code.unfolded 𝓤 H 𝓜 𝓡)

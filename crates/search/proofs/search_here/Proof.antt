@@ -1,7 +1,7 @@
 -- `search::search_here` meets its contract: the store is a local array, lent to `search` beside the plan buffer. Its signature has no reference to a
 -- record, so its callers need no walk.
 use Rattle.walks.proofs.Facts.{refl, [], _∷_, lit<}
-use Rattle.walks.proofs.Steps.{tyArray, w64, w32, w8, field, named, erased, mut, now, sliceTy, tablesOf, lease, After, arrF, Γin, World, pMutS, pShrS, here, _$_, _then_, _free_, _with_, returned, begins, ends, forgets, fresh, same, part, lit, big, gone, none, calls, tyOf, result, holds, value-room, makes-struct, _&_, nil, ptr, kept, mut-all, owed-len, lends, slices, backs, mut-arg, shr-arg, a-lent, arr-ptr, arr-room, fills, as-array, lends-array, backs-array, Job, Walked, Laid, closes, Cited, cites}
+use Rattle.walks.proofs.Steps.{tyArray, w64, w32, w8, field, named, erased, mut, now, sliceTy, tablesOf, lease, After, arrF, World, pMutS, pShrS, here, _$_, _then_, _free_, _with_, returned, begins, ends, forgets, fresh, same, part, lit, big, gone, none, calls, tyOf, result, holds, value-room, makes-struct, _&_, nil, ptr, kept, mut-all, owed-len, lends, slices, backs, mut-arg, shr-arg, a-lent, arr-ptr, arr-room, fills, as-array, lends-array, backs-array, Job, Walked, Laid, meets, Cited, cites, begun, world}
 use Rattle.store.specs.Nodes.{nothing}
 use Rattle.store.proofs.Node.{the-type}
 use Rattle.store.proofs.Node.Laws.{the-laws, the-plain}
@@ -31,7 +31,7 @@ module _ (w : World) where
   walk κs qs bs =
       makes-struct the-type the-laws the-plain node-wt 4 (lit w64 0 tt & lit w32 0 tt & lit w8 0 tt & nil) (λ m. nothing) fresh refl (λ m. refl) then
       fills node-type 3 4 4096 (holds node-type) fresh refl refl with as-array node-type 3 4096 same then
-      gone 4 (value-room node-type) free here (After (Γin 2 (job .ps) (job .r) (job .xs) 2 κs qs) 3 (arrF (node-type .R) 4096 0)) $
+      gone 4 (value-room node-type) free here (After (begun job κs qs) 3 (arrF (node-type .R) 4096 0)) $
       begins 2 _ free lends-array node-type 3 5 4096 2 same fresh refl (lit< tt, lit< tt) then
       slices (node-type .R) 5 6 2 (arr-ptr node-type 4096) same fresh (big w64 4096 (record { fits = lit< tt })) refl refl then
       begins 3 _ free lends byte 2 7 1 3 (named 1) same fresh refl tt refl refl then
@@ -47,5 +47,4 @@ module _ (w : World) where
 
 pub search-here-spec : {M : Type 1} → this.Statement.statement M
 unfolding this.Code.routine tablesOf
-search-here-spec {M} 𝓤 H 𝓜 𝓖 𝓡 =
-    let w : World = record { M = M; 𝓤 = 𝓤; H = H; 𝓜 = 𝓜; 𝓖 = 𝓖; 𝓡 = 𝓡 } in closes job w this.Code.env this.Key.name this.Code.function (walk w) (laid w) (this.Code.unfolded 𝓤 H 𝓜 𝓡)
+search-here-spec 𝓤 H 𝓜 𝓖 𝓡 = meets job this.Code.env this.Key.name this.Code.function walk laid (world 𝓤 H 𝓜 𝓖 𝓡) (this.Code.unfolded 𝓤 H 𝓜 𝓡)

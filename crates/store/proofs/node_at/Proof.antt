@@ -1,6 +1,6 @@
 -- `store::node_at` meets its contract: a walk of its MIR, and what the walk asks.
 use Rattle.walks.proofs.Facts.{refl, [], _∷_, arith}
-use Rattle.walks.proofs.Steps.{w64, mul, unsigned, offset, field, named, imm, tablesOf, sInt, sPtr, World, _then_, _free_, returned, n64, fresh, over, same, at, part, lit, does, gone, ptr, shr-ptr, holds, value-room, copies-value, fetches, Walked, Laid, closes}
+use Rattle.walks.proofs.Steps.{w64, mul, unsigned, offset, field, named, imm, tablesOf, sInt, sPtr, World, _then_, _free_, returned, n64, fresh, over, same, at, part, lit, does, gone, ptr, shr-ptr, holds, value-room, copies-value, fetches, Walked, Laid, meets, world}
 use Rattle.store.specs.Nodes.{nothing}
 use Rattle.store.proofs.Node.{the-row}
 use Rattle.store.proofs.Jobs.{node-at as job}
@@ -22,5 +22,4 @@ module _ (w : World) where
 
 pub node-at-spec : {M : Type 1} → this.Statement.statement M
 unfolding this.Code.routine tablesOf
-node-at-spec {M} 𝓤 H 𝓜 𝓖 𝓡 =
-    let w : World = record { M = M; 𝓤 = 𝓤; H = H; 𝓜 = 𝓜; 𝓖 = 𝓖; 𝓡 = 𝓡 } in closes job w this.Code.env this.Key.name this.Code.function (walk w) (laid w) (this.Code.unfolded 𝓤 H 𝓜 𝓡)
+node-at-spec 𝓤 H 𝓜 𝓖 𝓡 = meets job this.Code.env this.Key.name this.Code.function walk laid (world 𝓤 H 𝓜 𝓖 𝓡) (this.Code.unfolded 𝓤 H 𝓜 𝓡)

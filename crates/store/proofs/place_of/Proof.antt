@@ -1,6 +1,6 @@
 -- `store::place_of` meets its contract: a walk of its MIR, and what the walk asks. The loop keeps that no place below i holds the set.
 use Rattle.walks.proofs.Facts.{_≡_, refl, ap, sym, _∙_, _⊎_, inl, inr, _≢_, List, [], _∷_, ℕ, _<_, _≤_, _+_, _-_, eq-or-lt-of-le, arith, ltb-true, ltb-false, eqb-true, eqb-false}
-use Rattle.walks.proofs.Steps.{w64, add, lt, eq, unsigned, field, named, tablesOf, sInt, sBool, World, _then_, _free_, _with_, returned, last, skipped, left, joined, branches, loops, n64, flag, fresh, over, at, part, lit, puts, does, gone, none, num, calls, shr-arg, a-lent, value-room, Walked, Laid, closes, Cited, cites}
+use Rattle.walks.proofs.Steps.{w64, add, lt, eq, unsigned, field, named, tablesOf, sInt, sBool, World, _then_, _free_, _with_, returned, last, skipped, left, joined, branches, loops, n64, flag, fresh, over, at, part, lit, puts, does, gone, none, num, calls, shr-arg, a-lent, value-room, Walked, Laid, meets, Cited, cites, world}
 use Rattle.store.specs.declared.Node.{Node}
 use Rattle.store.specs.Nodes.{setAt}
 use Rattle.store.proofs.Node.{the-row}
@@ -75,5 +75,4 @@ module _ (w : World) where
 
 pub place-of-spec : {M : Type 1} → this.Statement.statement M
 unfolding this.Code.routine tablesOf
-place-of-spec {M} 𝓤 H 𝓜 𝓖 𝓡 =
-    let w : World = record { M = M; 𝓤 = 𝓤; H = H; 𝓜 = 𝓜; 𝓖 = 𝓖; 𝓡 = 𝓡 } in closes job w this.Code.env this.Key.name this.Code.function (walk w) (laid w) (this.Code.unfolded 𝓤 H 𝓜 𝓡)
+place-of-spec 𝓤 H 𝓜 𝓖 𝓡 = meets job this.Code.env this.Key.name this.Code.function walk laid (world 𝓤 H 𝓜 𝓖 𝓡) (this.Code.unfolded 𝓤 H 𝓜 𝓡)

@@ -1,6 +1,6 @@
 -- `store::plan_length` meets its contract: a walk of its MIR, and what the walk asks. The loop keeps how far behind it the place `at` lies.
 use Rattle.walks.proofs.Facts.{_≡_, refl, ap, sym, subst, _≢_, List, [], _∷_, ℕ, _<_, _+_, arith, length, eqb-true, eqb-false, not-true, not-false}
-use Rattle.walks.proofs.Steps.{w64, add, ne, cast, unsigned, field, named, tablesOf, sInt, sBool, World, _then_, _free_, _with_, returned, last, skipped, left, joined, branches, loops, n64, flag, fresh, over, at, part, lit, puts, does, turns, gone, none, num, calls, shr-arg, a-lent, value-room, Walked, Laid, closes, Cited, cites}
+use Rattle.walks.proofs.Steps.{w64, add, ne, cast, unsigned, field, named, tablesOf, sInt, sBool, World, _then_, _free_, _with_, returned, last, skipped, left, joined, branches, loops, n64, flag, fresh, over, at, part, lit, puts, does, turns, gone, none, num, calls, shr-arg, a-lent, value-room, Walked, Laid, meets, Cited, cites, world}
 use Rattle.store.specs.declared.Node.{Node}
 use Rattle.store.specs.Nodes.{nodeAt}
 use Rattle.store.proofs.Node.{the-row}
@@ -62,5 +62,4 @@ module _ (w : World) where
 
 pub plan-length-spec : {M : Type 1} → this.Statement.statement M
 unfolding this.Code.routine tablesOf
-plan-length-spec {M} 𝓤 H 𝓜 𝓖 𝓡 =
-    let w : World = record { M = M; 𝓤 = 𝓤; H = H; 𝓜 = 𝓜; 𝓖 = 𝓖; 𝓡 = 𝓡 } in closes job w this.Code.env this.Key.name this.Code.function (walk w) (laid w) (this.Code.unfolded 𝓤 H 𝓜 𝓡)
+plan-length-spec 𝓤 H 𝓜 𝓖 𝓡 = meets job this.Code.env this.Key.name this.Code.function walk laid (world 𝓤 H 𝓜 𝓖 𝓡) (this.Code.unfolded 𝓤 H 𝓜 𝓡)

@@ -1,6 +1,6 @@
 -- `store::put` meets its contract: a walk of its MIR, and what the walk asks.
 use Rattle.walks.proofs.Facts.{refl, [], _∷_, arith, length-set}
-use Rattle.walks.proofs.Steps.{w64, w32, w8, mul, unsigned, offset, field, named, mut, tablesOf, sInt, sPtr, sUnit, World, _then_, _free_, returned, n64, n32, n8, fresh, over, same, at, part, lit, unit, puts, does, gone, ptr, kept, mut-ptr, holds, value-room, makes-struct, _&_, nil, stores, Walked, Laid, closes}
+use Rattle.walks.proofs.Steps.{w64, w32, w8, mul, unsigned, offset, field, named, mut, tablesOf, sInt, sPtr, sUnit, World, _then_, _free_, returned, n64, n32, n8, fresh, over, same, at, part, lit, unit, puts, does, gone, ptr, kept, mut-ptr, holds, value-room, makes-struct, _&_, nil, stores, Walked, Laid, meets, world}
 use Rattle.store.specs.Nodes.{node}
 use Rattle.store.proofs.Node.{the-row, the-type}
 use Rattle.store.proofs.Jobs.{put as job}
@@ -28,5 +28,4 @@ module _ (w : World) where
 
 pub put-spec : {M : Type 1} → this.Statement.statement M
 unfolding this.Code.routine tablesOf
-put-spec {M} 𝓤 H 𝓜 𝓖 𝓡 =
-    let w : World = record { M = M; 𝓤 = 𝓤; H = H; 𝓜 = 𝓜; 𝓖 = 𝓖; 𝓡 = 𝓡 } in closes job w this.Code.env this.Key.name this.Code.function (walk w) (laid w) (this.Code.unfolded 𝓤 H 𝓜 𝓡)
+put-spec 𝓤 H 𝓜 𝓖 𝓡 = meets job this.Code.env this.Key.name this.Code.function walk laid (world 𝓤 H 𝓜 𝓖 𝓡) (this.Code.unfolded 𝓤 H 𝓜 𝓡)

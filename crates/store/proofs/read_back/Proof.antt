@@ -1,6 +1,6 @@
 -- `store::read_back` meets its contract: a walk of its MIR, and what the walk asks.
 use Rattle.walks.proofs.Facts.{refl, List, [], _∷_, ℕ, _≤_, length, leb-true, leb-false}
-use Rattle.walks.proofs.Steps.{w64, le, unsigned, field, named, erased, mut, Lfts, Shares, tablesOf, Cx, sInt, sBool, sUnit, lease, sc-here, After, Γin, World, here, _$_, _then_, _free_, returned, skipped, joined, branches, begins, ends, forgets, n64, flag, fresh, over, same, at, part, puts, does, gone, none, num, calls, last, _with_, ptr, kept, mut-len, mut-all, owed-len, lends, slices, backs, mut-arg, shr-arg, a-lent, Walked, Laid, closes, Cited, cites}
+use Rattle.walks.proofs.Steps.{w64, le, unsigned, field, named, erased, mut, Lfts, Shares, tablesOf, Cx, sInt, sBool, sUnit, lease, After, World, here, _$_, _then_, _free_, returned, skipped, joined, branches, begins, ends, forgets, n64, flag, fresh, over, same, at, part, puts, does, gone, none, num, calls, last, _with_, ptr, kept, mut-len, mut-all, owed-len, lends, slices, backs, mut-arg, shr-arg, a-lent, Walked, Laid, meets, Cited, cites, begun, world, u64}
 use Rattle.store.proofs.Node.{the-row}
 use Rattle.store.proofs.PathLaws.{read-fits, read-long}
 use Rattle.store.proofs.Jobs as jobs
@@ -18,9 +18,8 @@ module _ (w : World) where
   write-plan = cites job jobs.write-plan w this.Code.env write-fn.Symbol.name write-fn.Symbol.routine this.Code.calls-store·write-plan (write-fn.Met.met (w .𝓤) (w .H) (w .𝓜) (w .𝓖) (w .𝓡))
 
   -- the context with the length
-  module _ (κs : Lfts 2) (qs : Shares 2) where
-    abbrev Has-n : Cx
-    Has-n = After (Γin 2 (job .ps) (job .r) (job .xs) 1 κs qs) 4 (sc-here (sInt w64))
+  abbrev Has-n : (κs : Lfts 2) (qs : Shares 2) → Cx
+  Has-n κs qs = After (begun job κs qs) 4 u64
 
   abbrev walk : Walked job w this.Code.env this.Code.function
   walk κs qs bs =
@@ -56,5 +55,4 @@ module _ (w : World) where
 
 pub read-back-spec : {M : Type 1} → this.Statement.statement M
 unfolding this.Code.routine tablesOf
-read-back-spec {M} 𝓤 H 𝓜 𝓖 𝓡 =
-    let w : World = record { M = M; 𝓤 = 𝓤; H = H; 𝓜 = 𝓜; 𝓖 = 𝓖; 𝓡 = 𝓡 } in closes job w this.Code.env this.Key.name this.Code.function (walk w) (laid w) (this.Code.unfolded 𝓤 H 𝓜 𝓡)
+read-back-spec 𝓤 H 𝓜 𝓖 𝓡 = meets job this.Code.env this.Key.name this.Code.function walk laid (world 𝓤 H 𝓜 𝓖 𝓡) (this.Code.unfolded 𝓤 H 𝓜 𝓡)

@@ -1,6 +1,6 @@
 -- `store::write_plan` meets its contract: a walk of its MIR, and what the walk asks. The loop keeps what is written and what is left to write.
 use Rattle.walks.proofs.Facts.{_≡_, refl, sym, subst, _≢_, List, [], _∷_, ℕ, _<_, _≤_, _-_, arith, length, eqb-true, eqb-false, not-true, not-false}
-use Rattle.walks.proofs.Steps.{w64, sub, ne, cast, unsigned, field, named, erased, mut, Lfts, Shares, tablesOf, Cx, Row, sInt, sBool, sUnit, lease, sc-here, After, setVals, Γin, World, Callee, here, _$_, _then_, _free_, _with_, returned, last, skipped, left, joined, branches, loops, begins, ends, forgets, n64, flag, fresh, over, same, at, part, lit, unit, puts, does, turns, gone, none, num, num-of, calls, ptr, kept, mut-all, owed-len, lends, slices, backs, mut-arg, shr-arg, a-lent, is, value-room, site, Walked, Laid, closes, Cited, cites}
+use Rattle.walks.proofs.Steps.{w64, sub, ne, cast, unsigned, field, named, erased, mut, Lfts, Shares, tablesOf, Cx, sInt, sBool, sUnit, lease, After, setVals, World, Callee, here, _$_, _then_, _free_, _with_, returned, last, skipped, left, joined, branches, loops, begins, ends, forgets, n64, flag, fresh, over, same, at, part, lit, unit, puts, does, turns, gone, none, num, num-of, calls, ptr, kept, mut-all, owed-len, lends, slices, backs, mut-arg, shr-arg, a-lent, is, value-room, site, Walked, Laid, meets, Cited, cites, begun, world, u64}
 use Rattle.store.specs.declared.Node.{Node}
 use Rattle.store.specs.Nodes.{nodeAt}
 use Rattle.store.proofs.Node.{the-row}
@@ -11,9 +11,6 @@ use Rattle.store.proofs.Types.{byte, node-type, parent-of, command-of}
 use Rattle.store.proofs.node_at as at-fn
 use Rattle.store.proofs.put_command as put-fn
 use Rattle.store.proofs.write_plan as this
-
-abbrev u64 : Row
-u64 = sc-here (sInt w64)
 
 some : (n : ℕ) → n ≢ 0 → 1 ≤ n
 some n p = omega arith
@@ -34,7 +31,7 @@ module _ (w : World) where
   -- the contexts: at the loop's head, and with the record
   module _ (κs : Lfts 2) (qs : Shares 2) where
     abbrev Hd : Cx
-    Hd = After (After (Γin 2 (job .ps) (job .r) (job .xs) 1 κs qs) 5 u64) 6 u64
+    Hd = After (After (begun job κs qs) 5 u64) 6 u64
 
     abbrev Has-n : Cx
     Has-n = After Hd 7 (is node-type)
@@ -100,5 +97,4 @@ module _ (w : World) where
 
 pub write-plan-spec : {M : Type 1} → this.Statement.statement M
 unfolding this.Code.routine tablesOf
-write-plan-spec {M} 𝓤 H 𝓜 𝓖 𝓡 =
-    let w : World = record { M = M; 𝓤 = 𝓤; H = H; 𝓜 = 𝓜; 𝓖 = 𝓖; 𝓡 = 𝓡 } in closes job w this.Code.env this.Key.name this.Code.function (walk w) (laid w) (this.Code.unfolded 𝓤 H 𝓜 𝓡)
+write-plan-spec 𝓤 H 𝓜 𝓖 𝓡 = meets job this.Code.env this.Key.name this.Code.function walk laid (world 𝓤 H 𝓜 𝓖 𝓡) (this.Code.unfolded 𝓤 H 𝓜 𝓡)
