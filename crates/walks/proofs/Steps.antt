@@ -16,4 +16,4 @@ pub use Rattle.walks.proofs.Walk.{_then_, _free_, returned, n64, fresh,
 pub use Rattle.walks.proofs.Values.{holds, value-room, copies-value, makes-struct, _&_, nil, is, val-arg, tyOf, result}
 pub use Rattle.walks.proofs.Slices.{ptr, shr-ptr, shr-arg, a-lent, kept, mut-ptr, mut-len, mut-all, owed-len, lends, slices, backs, mut-arg, shares, shared-len, slices-shared, slice-room, unshares}
 pub use Rattle.walks.proofs.Elements.{fetches, stores, arr-ptr, arr-room, fills, as-array, lends-array, backs-array}
-pub use Rattle.walks.proofs.Meets.{Walked, Laid, meets, Cited, cites, site, Job, begun, world}
+pub use Rattle.walks.proofs.Meets.{Walked, Laid, meets, Cited, cites, site, Job, job-of, begun, world}

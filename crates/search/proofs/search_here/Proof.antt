@@ -1,7 +1,7 @@
 -- `search::search_here` meets its contract: the store is a local array, lent to `search` beside the plan buffer. Its signature has no reference to a
 -- record, so its callers need no walk.
 use Rattle.walks.proofs.Facts.{refl, [], _∷_, lit<}
-use Rattle.walks.proofs.Steps.{tyArray, w64, w32, w8, field, named, erased, mut, now, sliceTy, tablesOf, lease, After, arrF, World, pMutS, pShrS, here, _$_, _then_, _free_, _with_, returned, begins, ends, forgets, fresh, same, part, lit, big, gone, none, calls, tyOf, result, holds, value-room, makes-struct, _&_, nil, ptr, kept, mut-all, owed-len, lends, slices, backs, mut-arg, shr-arg, a-lent, arr-ptr, arr-room, fills, as-array, lends-array, backs-array, Job, Walked, Laid, meets, Cited, cites, begun, world}
+use Rattle.walks.proofs.Steps.{tyArray, w64, w32, w8, field, named, erased, mut, now, sliceTy, tablesOf, lease, After, arrF, World, pMutS, pShrS, here, _$_, _then_, _free_, _with_, returned, begins, ends, forgets, fresh, same, part, lit, big, gone, none, calls, tyOf, result, holds, value-room, makes-struct, _&_, nil, ptr, kept, mut-all, owed-len, lends, slices, backs, mut-arg, shr-arg, a-lent, arr-ptr, arr-room, fills, as-array, lends-array, backs-array, Job, job-of, Walked, Laid, meets, Cited, cites, begun, world}
 use Rattle.store.specs.Nodes.{nothing}
 use Rattle.store.proofs.Node.{the-type}
 use Rattle.store.proofs.Node.Laws.{the-laws, the-plain}
@@ -13,15 +13,10 @@ use Rattle.search.proofs.search as search-fn
 use Rattle.search.proofs.search_here as this
 
 abbrev job : Job
-job = record {
-  n = 2;
-  ps = pShrS byte 0 tt ∷ pMutS byte 1 tt ∷ [];
-  r = result answer-type;
-  xs = tyArray (tyOf node-type) 4096 ∷ tyOf node-type ∷ arr-ptr node-type 4096 ∷ sliceTy (ptr (node-type .R) erased mut) ∷ ptr byte erased mut ∷ sliceTy (ptr byte erased mut) ∷ [];
-  m = 2;
-  Pre = λ κs a. [];
-  Post = λ κs a z e. (SearchedHere 4096 (a .0 .now) (a .1 .0 .now) (now (e .1 .0)) z) ∷ [];
-}
+job = job-of 2 2 (pShrS byte 0 tt ∷ pMutS byte 1 tt ∷ []) (result answer-type)
+    (tyArray (tyOf node-type) 4096 ∷ tyOf node-type ∷ arr-ptr node-type 4096 ∷ sliceTy (ptr (node-type .R) erased mut) ∷ ptr byte erased mut ∷ sliceTy (ptr byte erased mut) ∷ [])
+    (λ κs a. [])
+    (λ κs a z e. (SearchedHere 4096 (a .0 .now) (a .1 .0 .now) (now (e .1 .0)) z) ∷ [])
 
 module _ (w : World) where
   search : Cited job jobs.search w this.Code.env search-fn.Symbol.name
