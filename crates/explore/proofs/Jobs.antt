@@ -1,14 +1,7 @@
 -- The contracts of the walked functions, as a walk takes them: each is the function's own `requires` and `ensures`, with which its proof and its
 -- callers' proofs compare them.
-use mathlib.Core.List.{[], _∷_}
-use Prim.Native.Nat.{_+_, _≤_, _<_}
-use lib.ListN.{length}
-use package.mir.Syntax.{tyInt, tyBool, tyUnit, w64, w32, w8, erased, mut, imm}
-use denote.Ref.{now}
-use denote.Slice.{sliceTy}
-use borrow.Fn.Kinds.{pNum}
-use borrow.Kind.MutSlice.{pMutS}
-use borrow.Kind.ShrSlice.{pShrS}
+use Rattle.walks.proofs.Facts.{[], _∷_, _+_, _≤_, _<_, length}
+use Rattle.walks.proofs.Steps.{tyInt, tyBool, tyUnit, w64, w32, w8, erased, mut, imm, now, sliceTy, pNum, pMutS, pShrS, ptr, tyOf, param, result, Job, job-of}
 use Rattle.meaning.specs.Answers.{room as room-for}
 use Rattle.sets.specs.Words.{setOf}
 use Rattle.follow.specs.Following.{domainBy}
@@ -17,9 +10,6 @@ use Rattle.store.proofs.Types.{byte, node-type}
 use Rattle.explore.specs.Ready.{Ready}
 use Rattle.explore.specs.Turns.{NextAt, Going, Turned, Explored}
 use Rattle.explore.proofs.Types.{head-type, turn-type, next-type}
-use Rattle.walks.proofs.Slices.{ptr}
-use Rattle.walks.proofs.Values.{tyOf, param, result}
-use Rattle.walks.proofs.Meets.{Job, job-of}
 
 abbrev pub next-at : Job
 next-at = job-of 2 0 (param head-type ∷ pShrS byte 0 tt ∷ pShrS (node-type .R) 1 tt ∷ pNum w64 ∷ pNum w64 ∷ pNum w64 ∷ []) (result next-type)

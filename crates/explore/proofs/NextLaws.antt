@@ -1,13 +1,5 @@
 -- What a command gives at a place, as plain facts: the step of `meaning` by the sendable test and the image, and the look-up among the places.
-use mathlib.Core.Path.{_≡_, sym, ap, _∙_, subst}
-use mathlib.Core.Bool.{Bool, true, false, true≢false}
-use mathlib.Core.Logic.{_⊎_, inl, inr}
-use mathlib.Core.Option.{Option, some}
-use mathlib.Core.List.{List}
-use Prim.Native.Nat.{ℕ, _<_}
-use native.Mathlib.Nat.{eq-or-lt-of-le}
-use lib.Dec.{eqb}
-use borrow.Author.Tests.{eqb-true, eq-eqb}
+use Rattle.walks.proofs.Facts.{_≡_, sym, ap, _∙_, subst, Bool, true, false, true≢false, _⊎_, inl, inr, Option, some, List, ℕ, _<_, eq-or-lt-of-le, eqb, eqb-true, eq-eqb}
 use Rattle.meaning.specs.Domain.{Domain}
 use Rattle.meaning.specs.Walk.{sendable, image, step}
 use Rattle.meaning.proofs.StepLaws.{step-sends, step-stops}

@@ -1,16 +1,6 @@
 -- Each turn of the search's loops, as a plain fact: what a try, an expansion and the run keep of the listing and of the store. The laws of progress say
 -- how the listing goes on; here stands what the store then holds.
-use mathlib.Core.Path.{_≡_, refl, sym, ap, _∙_, subst}
-use mathlib.Core.Logic.{⊎-elim, _≢_}
-use mathlib.Core.Option.{none, some}
-use mathlib.Core.List.{List}
-use Prim.Native.Nat.{ℕ, _+_, _-_, _≤_, _<_}
-use native.Mathlib.Nat.{lt-of-not-le, eq-or-lt-of-le, le-of-suc-le-suc, lt-irrefl, not-suc-le-zero}
-use native.Mathlib.Numerals.{add-one}
-use native.Mathlib.Omega.{arith}
-use lib.Arith.{lt-one}
-use lib.ListN.{length, drop, set, length-set}
-use lib.Seq.{getD-set-same, getD-set-other, drop-set-lt, drop-drop}
+use Rattle.walks.proofs.Facts.{_≡_, refl, sym, ap, _∙_, subst, ⊎-elim, _≢_, none, some, List, ℕ, _+_, _-_, _≤_, _<_, lt-of-not-le, eq-or-lt-of-le, le-of-suc-le-suc, lt-irrefl, not-suc-le-zero, add-one, arith, lt-one, length, drop, set, length-set, getD-set-same, getD-set-other, drop-set-lt, drop-drop}
 use Rattle.meaning.specs.Sets.{_⊆_}
 use Rattle.meaning.specs.Domain.{Domain}
 use Rattle.meaning.specs.Walk.{step}

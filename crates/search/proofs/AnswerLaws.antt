@@ -1,12 +1,5 @@
 -- The answer from how the search ended: with the plan read back, where one was found.
-use mathlib.Core.Path.{_≡_, refl, sym, ap, _∙_, subst}
-use mathlib.Core.Logic.{_≢_}
-use mathlib.Core.Bool.{Bool, cond}
-use mathlib.Core.List.{List, _++_}
-use Prim.Native.Nat.{ℕ, _-_, _≤_, _<_}
-use native.Mathlib.Omega.{arith}
-use lib.ListN.{length, drop}
-use borrow.Author.Tests.{le-leb, lt-leb, eq-eqb, ne-eqb}
+use Rattle.walks.proofs.Facts.{_≡_, refl, sym, ap, _∙_, subst, _≢_, Bool, cond, List, _++_, ℕ, _-_, _≤_, _<_, arith, length, drop, le-leb, lt-leb, eq-eqb, ne-eqb}
 use Rattle.store.specs.declared.Node.{Node}
 use Rattle.store.specs.Paths.{ReadBack}
 use Rattle.store.proofs.PathLaws.{path-fun}

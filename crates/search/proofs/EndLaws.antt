@@ -1,14 +1,6 @@
 -- The answer of a search that has ended. The parents of the store lead back along the listing's own sequences, so the plan that is read back is the
 -- sequence of the last place.
-use mathlib.Core.Path.{_≡_, refl, sym, ap, _∙_, subst}
-use mathlib.Core.Logic.{_≢_}
-use mathlib.Core.List.{List, [], _++_, map}
-use Prim.Native.Nat.{ℕ, zero, suc, _-_, _≤_, _<_}
-use native.Mathlib.Nat.{lt-of-not-le, not-suc-le-zero}
-use native.Mathlib.Decide.{decLe}
-use native.Mathlib.Omega.{arith}
-use lib.ListN.{length, take, drop, length-map}
-use lib.Seq.{length-take-le}
+use Rattle.walks.proofs.Facts.{_≡_, refl, sym, ap, _∙_, subst, _≢_, List, [], _++_, map, ℕ, zero, suc, _-_, _≤_, _<_, lt-of-not-le, not-suc-le-zero, decLe, arith, length, take, drop, length-map, length-take-le}
 use Rattle.meaning.specs.Domain.{Domain}
 use Rattle.meaning.specs.Walk as walk
 use Rattle.meaning.specs.Listing.{Entry, At, Holds, Link, initial, later, Stores}

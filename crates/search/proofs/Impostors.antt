@@ -1,11 +1,6 @@
 -- Wrong searches, each ruled out on a sheet that the scope names: for an accepted sheet the promise leaves only the computed answer, store and plan
 -- buffer, and they are computed from the sheet's bytes.
-use mathlib.Core.Path.{_≡_, refl, sym, ap, _∙_, subst₂}
-use mathlib.Core.Logic.{_≢_}
-use mathlib.Core.List.{List, [], _∷_, _++_, map}
-use Prim.Native.Nat.{ℕ}
-use native.Mathlib.Omega.{arith}
-use lib.ListN.{length, take, drop, replicate, getD}
+use Rattle.walks.proofs.Facts.{_≡_, refl, sym, ap, _∙_, subst₂, _≢_, List, [], _∷_, _++_, map, ℕ, arith, length, take, drop, replicate, getD}
 use Rattle.meaning.specs.Walk.{sendable, image, step}
 use Rattle.meaning.specs.Listing as records
 use Rattle.meaning.specs.Answers.{Searched, Searches, room}

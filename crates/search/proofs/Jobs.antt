@@ -1,12 +1,7 @@
 -- The contracts of the walked functions, as a walk takes them: each is the function's own `requires` and `ensures`, with which its proof and its
 -- callers' proofs compare them.
-use mathlib.Core.List.{[], _∷_}
-use package.mir.Syntax.{tyInt, tyBool, w64, erased, mut, imm}
-use denote.Ref.{now}
-use denote.Slice.{sliceTy}
-use borrow.Fn.Kinds.{pNum}
-use borrow.Kind.MutSlice.{pMutS}
-use borrow.Kind.ShrSlice.{pShrS}
+use Rattle.walks.proofs.Facts.{[], _∷_}
+use Rattle.walks.proofs.Steps.{tyInt, tyBool, w64, erased, mut, imm, now, sliceTy, pNum, pMutS, pShrS, ptr, tyOf, param, result, Job, job-of}
 use Rattle.sets.specs.Words.{setOf}
 use Rattle.follow.specs.Following.{domainBy}
 use Rattle.store.proofs.Types.{byte, node-type}
@@ -15,9 +10,6 @@ use Rattle.explore.proofs.Types.{head-type, turn-type}
 use Rattle.search.specs.Done.{SearchDone, SheetSearched}
 use Rattle.search.specs.Endings.{CanRead, Finished}
 use Rattle.search.proofs.Types.{reading-type, answer-type}
-use Rattle.walks.proofs.Slices.{ptr}
-use Rattle.walks.proofs.Values.{tyOf, param, result}
-use Rattle.walks.proofs.Meets.{Job, job-of}
 
 abbrev pub finish : Job
 finish = job-of 2 1 (pShrS (node-type .R) 0 tt ∷ param turn-type ∷ pMutS byte 1 tt ∷ []) (result answer-type)

@@ -1,12 +1,6 @@
 -- What the answer for an accepted sheet means, at the level of its bytes: 'no plan' leaves no good sequence of any length, and a plan that is found is
 -- good and the first of the good ones. All is shown of the domain's listing in `meaning`; here it is said of the answer, the store and the plan buffer.
-use mathlib.Core.Path.{_≡_, refl, sym, ap, _∙_, subst}
-use mathlib.Core.Logic.{_⊎_, inl, inr, ⊎-elim, _≢_}
-use mathlib.Core.List.{List}
-use Prim.Native.Nat.{ℕ, _-_, _^_, _≤_, _<_}
-use native.Mathlib.Omega.{arith}
-use lib.ListN.{length, take, drop}
-use lib.Seq.{take-at}
+use Rattle.walks.proofs.Facts.{_≡_, refl, sym, ap, _∙_, subst, _⊎_, inl, inr, ⊎-elim, _≢_, List, ℕ, _-_, _^_, _≤_, _<_, arith, length, take, drop, take-at}
 use Rattle.meaning.specs.Domain.{Domain}
 use Rattle.meaning.specs.Runs.{Good}
 use Rattle.meaning.specs.Answers as meaning

@@ -1,12 +1,5 @@
 -- A larger store: it changes no answer but 13, and what it holds only goes on. Both stores hold the start of one listing, and the count never falls.
-use mathlib.Core.Path.{_≡_, sym, ap, _∙_, subst, subst₂}
-use mathlib.Core.Logic.{_⊎_, inl, inr, ⊎-elim}
-use mathlib.Core.List.{List, _++_, map}
-use Prim.Native.Nat.{ℕ, _≤_, _<_}
-use native.Mathlib.Nat.{lt-of-lt-of-le, le-trans}
-use native.Mathlib.Omega.{arith}
-use lib.ListN.{length, take, drop, length-map, length-take}
-use lib.Seq.{length-take-le}
+use Rattle.walks.proofs.Facts.{_≡_, sym, ap, _∙_, subst, subst₂, _⊎_, inl, inr, ⊎-elim, List, _++_, map, ℕ, _≤_, _<_, lt-of-lt-of-le, le-trans, arith, length, take, drop, length-map, length-take, length-take-le}
 use Rattle.meaning.specs.Domain.{Domain}
 use Rattle.meaning.specs.Walk.{step}
 use Rattle.meaning.specs.Listing as listing

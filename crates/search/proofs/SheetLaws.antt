@@ -1,8 +1,5 @@
 -- From a reading to the search of a sheet: an accepted sheet gives a domain and a start that the engine takes, and its answer is the sheet's.
-use mathlib.Core.Path.{_≡_, refl, sym, ap, _∙_, subst}
-use mathlib.Core.Bool.{true, false, true≢false}
-use mathlib.Core.List.{List}
-use Prim.Native.Nat.{ℕ}
+use Rattle.walks.proofs.Facts.{_≡_, refl, sym, ap, _∙_, subst, true, false, true≢false, List, ℕ}
 use Rattle.meaning.specs.Domain.{Domain}
 use Rattle.sheet.specs.Sheet.{domain, domainIn}
 use Rattle.sheet.specs.Answers.{reading, shownHead}

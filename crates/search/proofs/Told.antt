@@ -1,9 +1,6 @@
 -- What an answer tells by itself: a plan and 'no plan' are given for accepted sheets only, since the answer for a refused sheet is its refusal. So what
 -- `Means` shows of them holds with no premise on the sheet.
-use mathlib.Core.Path.{_≡_, refl, sym, ap, _∙_}
-use mathlib.Core.List.{List}
-use Prim.Native.Nat.{ℕ}
-use lib.ListN.{take}
+use Rattle.walks.proofs.Facts.{_≡_, refl, sym, ap, _∙_, List, ℕ, take}
 use Rattle.meaning.specs.Runs.{Good}
 use Rattle.meaning.proofs.Meanings.{FirstGood}
 use Rattle.sheet.specs.Sheet.{domainIn}

@@ -1,10 +1,6 @@
 -- The promise of a search leaves one answer, one store and one plan buffer: the records of `meaning` tell the store's records apart, the later places
 -- and the rest of the plan buffer are as lent, and a reading is one of two.
-use mathlib.Core.Path.{_≡_, refl, sym, ap, ap₂, _∙_}
-use mathlib.Core.List.{List, [], _∷_, _++_, map, head-eq-of-cons-eq, tail-eq-of-cons-eq}
-use Prim.Native.Nat.{ℕ}
-use native.Mathlib.Omega.{arith}
-use lib.ListN.{length, take, drop, take-append-drop}
+use Rattle.walks.proofs.Facts.{_≡_, refl, sym, ap, ap₂, _∙_, List, [], _∷_, _++_, map, head-eq-of-cons-eq, tail-eq-of-cons-eq, ℕ, arith, length, take, drop, take-append-drop}
 use Rattle.meaning.specs.Domain.{Domain}
 use Rattle.meaning.specs.Listing as listing
 use Rattle.meaning.specs.Answers.{Searched, room}

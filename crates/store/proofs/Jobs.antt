@@ -1,24 +1,13 @@
 -- The contracts of the functions over the store, as a walk takes them: each is the function's own `requires` and `ensures`, with which its proof
 -- and its callers' proofs compare them.
-use mathlib.Core.Path.{_≡_}
-use mathlib.Core.List.{[], _∷_}
-use Prim.Native.Nat.{_<_, _≤_}
-use lib.ListN.{length, set, getD}
-use package.mir.Syntax.{tyInt, tyBool, tyPtr, tyUnit, w64, w32, w8, erased, mut}
-use denote.Ref.{now}
-use denote.Slice.{sliceTy}
-use borrow.Fn.Kinds.{pNum, rUnit, rNum}
-use borrow.Kind.MutSlice.{pMutS}
-use borrow.Kind.ShrSlice.{pShrS}
+use Rattle.walks.proofs.Facts.{_≡_, [], _∷_, _<_, _≤_, length, set, getD}
+use Rattle.walks.proofs.Steps.{tyInt, tyBool, tyPtr, tyUnit, w64, w32, w8, erased, mut, now, sliceTy, pNum, rUnit, rNum, pMutS, pShrS, ptr, result, Job, job-of}
 use Rattle.sets.specs.Words.{setOf}
 use Rattle.store.specs.Nodes.{nothing, node, Found}
 use Rattle.store.specs.Paths.{HasPath, LengthOf, WrittenBack, ReadBack}
 use Rattle.store.proofs.Node.{the-row}
 use Rattle.store.proofs.Node.Laws.{mir}
 use Rattle.store.proofs.Types.{byte, node-type}
-use Rattle.walks.proofs.Slices.{ptr}
-use Rattle.walks.proofs.Values.{result}
-use Rattle.walks.proofs.Meets.{Job, job-of}
 
 abbrev pub node-at : Job
 node-at = job-of 1 0 (pShrS the-row 0 tt ∷ pNum w64 ∷ []) (result node-type)

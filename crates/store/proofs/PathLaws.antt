@@ -1,13 +1,6 @@
 -- The loops that read a plan back, as plain facts. Each keeps the commands that it has passed: put after the sequence of the place where it stands
 -- they are the sequence of the place where it began.
-use mathlib.Core.Path.{_≡_, refl, sym, ap, _∙_, subst}
-use mathlib.Core.Logic.{_≢_}
-use mathlib.Core.List.{List, [], _∷_, _++_}
-use Prim.Native.Nat.{ℕ, suc, _+_, _-_, _≤_, _<_}
-use native.Mathlib.Omega.{arith}
-use native.Mathlib.Nat.{add-zero}
-use lib.ListN.{length, take, drop, set, getD, length-append, length-drop, take-append-drop}
-use lib.Seq.{take-suc, append-snoc, set-at, length-take-le}
+use Rattle.walks.proofs.Facts.{_≡_, refl, sym, ap, _∙_, subst, _≢_, List, [], _∷_, _++_, ℕ, suc, _+_, _-_, _≤_, _<_, arith, add-zero, length, take, drop, set, getD, length-append, length-drop, take-append-drop, take-suc, append-snoc, set-at, length-take-le}
 use Rattle.meaning.specs.Listing.{then}
 use Rattle.store.specs.declared.Node.{Node}
 use Rattle.store.specs.Nodes.{nodeAt}
