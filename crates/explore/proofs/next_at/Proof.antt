@@ -59,12 +59,10 @@ module _ (w : World) where
       calls (place-of bs) (1 ∷ []) 9 (shr-arg (node-type .R) 0 tt 3 (a-lent (node-type .R) (named 1) 1) refl (num 4 n64 refl (num 8 n64 refl none))) fresh (tt, tt) refl then here (Has-k κs qs) $
       calls (looked-up bs) [] 0 (num 9 n64 refl (num 4 n64 refl (num 8 n64 refl none))) fresh tt refl then
       gone 1 (value-room head-type) free gone 4 (over (sInt w64)) free gone 5 (over (sInt w64)) free gone 6 (over (sInt w64)) free
-      gone 7 (value-room node-type) free gone 8 (over (sInt w64)) free gone 9 (over (sInt w64)) free gone 10 (over sBool) free
-      returned tt) (skipped tt)) (
+      gone 7 (value-room node-type) free gone 8 (over (sInt w64)) free gone 9 (over (sInt w64)) free gone 10 (over sBool) free returned tt) (skipped tt)) (
       calls (nothing-new bs) [] 0 none fresh tt refl then
       gone 1 (value-room head-type) free gone 4 (over (sInt w64)) free gone 5 (over (sInt w64)) free gone 6 (over (sInt w64)) free
-      gone 7 (value-room node-type) free gone 10 (over sBool) free
-      returned tt)
+      gone 7 (value-room node-type) free gone 10 (over sBool) free returned tt)
 
   laid : Laid job w this.Code.env this.Code.function walk
   laid κs qs a good pre bs =

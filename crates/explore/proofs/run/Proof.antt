@@ -41,8 +41,7 @@ module _ (w : World) where
       does 9 sBool (lt unsigned) (at 7 n64 refl) (at 6 n64 refl) fresh refl (λ u. refl) (λ u. tt) then
       joined (Hd κs qs) (branches 9 flag refl (gone 9 (over sBool) free skipped tt) (gone 9 (over sBool) free left 1 tt)) (
       -- t = expand(head, sheet, goal, &mut *store, room, count, i)
-      begins 2 _ free
-      lends (node-type .R) 4 10 1 2 (named 1) same fresh refl tt refl refl then
+      begins 2 _ free lends (node-type .R) 4 10 1 2 (named 1) same fresh refl tt refl refl then
       slices (node-type .R) 10 11 2 (ptr (node-type .R) erased mut) same fresh (part 4 (field 1 ∷ []) (owed-len (node-type .R) (named 1) 1 2 (lease (κs .1 .0) (qs .1 .0))) refl) refl refl then
       calls (expand bs) (0 ∷ 2 ∷ []) 8 (val-arg head-type 1 [] (holds head-type) refl (shr-arg byte 0 tt 2 (a-lent byte (named 0) 0) refl (num 3 n64 refl (mut-arg (node-type .R) 1 tt 11 same (mut-all (node-type .R) erased 2) refl (num 5 n64 refl (num 6 n64 refl (num 7 n64 refl none))))))) fresh (tt, (tt, tt)) refl then
       ends 2 refl free backs (node-type .R) 11 4 1 2 (named 1) (lease (κs .1 .0) (qs .1 .0)) same same refl refl free forgets 2 refl free here (Has-t κs qs) $
@@ -50,13 +49,11 @@ module _ (w : World) where
       joined (Has-t κs qs) (branches 9 flag refl (
       gone 9 (over sBool) free
       copies-value turn-type 8 0 (holds turn-type) fresh refl refl then
-      gone 1 (value-room head-type) free gone 3 (over (sInt w64)) free gone 5 (over (sInt w64)) free gone 6 (over (sInt w64)) free gone 7 (over (sInt w64)) free gone 8 (value-room turn-type) free
-      returned tt) (gone 9 (over sBool) free skipped tt)) (
+      gone 1 (value-room head-type) free gone 3 (over (sInt w64)) free gone 5 (over (sInt w64)) free gone 6 (over (sInt w64)) free gone 7 (over (sInt w64)) free gone 8 (value-room turn-type) free returned tt) (gone 9 (over sBool) free skipped tt)) (
       puts 6 (sInt w64) (part 8 (field 1 ∷ []) count-of refl) (over (sInt w64)) refl (λ u. refl) (λ u. tt) then
       last tt (does 7 (sInt w64) (add unsigned) (at 7 n64 refl) (lit w64 1 tt) (over (sInt w64)) refl (λ u. refl) (λ u. tt) with gone 8 (value-room turn-type))))))
       (calls (turned bs) [] 0 (num-lit 1 tt (num 6 n64 refl none)) fresh tt refl then
-      gone 1 (value-room head-type) free gone 3 (over (sInt w64)) free gone 5 (over (sInt w64)) free gone 6 (over (sInt w64)) free gone 7 (over (sInt w64)) free
-      returned tt)
+      gone 1 (value-room head-type) free gone 3 (over (sInt w64)) free gone 5 (over (sInt w64)) free gone 6 (over (sInt w64)) free gone 7 (over (sInt w64)) free returned tt)
 
   laid : Laid job w this.Code.env this.Code.function walk
   laid κs qs a good pre bs =

@@ -37,8 +37,7 @@ module _ (w : World) where
   abbrev walk : Walked job w this.Code.env this.Code.function
   walk κs qs bs =
       -- next = next_at(head, sheet, &*store, count, i, command)
-      begins 2 _ free
-      shares (node-type .R) 4 11 1 2 (named 1) same fresh refl tt refl refl then
+      begins 2 _ free shares (node-type .R) 4 11 1 2 (named 1) same fresh refl tt refl refl then
       slices-shared (node-type .R) 11 12 2 (ptr (node-type .R) erased imm) same fresh (part 4 (field 1 ∷ []) (shared-len (node-type .R) (named 1) 1 2 (lease (κs .1 .0) (qs .1 .0))) refl) refl refl then
       calls (next-at bs) (0 ∷ 2 ∷ []) 9 (val-arg head-type 1 [] (holds head-type) refl (shr-arg byte 0 tt 2 (a-lent byte (named 0) 0) refl (shr-arg (node-type .R) 1 tt 12 (a-lent (node-type .R) erased 2) refl (num 6 n64 refl (num 7 n64 refl (num 8 n64 refl none)))))) fresh (tt, (tt, tt)) refl then
       gone 12 (slice-room (node-type .R) erased 2) free ends 2 refl free unshares (node-type .R) 4 1 2 (named 1) (lease (κs .1 .0) (qs .1 .0)) same refl refl free forgets 2 refl free here (Has-g κs qs) $
@@ -52,11 +51,9 @@ module _ (w : World) where
       joined (Has-g κs qs) (branches 14 flag refl (
       gone 14 (over sBool) free here (Has-g κs qs) $
       calls (turned bs) [] 0 (num-lit 2 tt (num 6 n64 refl none)) fresh tt refl then
-      gone 1 (value-room head-type) free gone 3 (over (sInt w64)) free gone 5 (over (sInt w64)) free gone 6 (over (sInt w64)) free gone 7 (over (sInt w64)) free gone 8 (over (sInt w64)) free gone 9 (value-room next-type) free
-      returned tt) (gone 14 (over sBool) free skipped tt)) (
+      gone 1 (value-room head-type) free gone 3 (over (sInt w64)) free gone 5 (over (sInt w64)) free gone 6 (over (sInt w64)) free gone 7 (over (sInt w64)) free gone 8 (over (sInt w64)) free gone 9 (value-room next-type) free returned tt) (gone 14 (over sBool) free skipped tt)) (
       -- put(&mut *store, count, next.set, i as u32, command as u8)
-      begins 2 _ free
-      lends (node-type .R) 4 16 1 2 (named 1) same fresh refl tt refl refl then
+      begins 2 _ free lends (node-type .R) 4 16 1 2 (named 1) same fresh refl tt refl refl then
       slices (node-type .R) 16 17 2 (ptr (node-type .R) erased mut) same fresh (part 4 (field 1 ∷ []) (owed-len (node-type .R) (named 1) 1 2 (lease (κs .1 .0) (qs .1 .0))) refl) refl refl then
       turns 18 (sInt w32) (cast unsigned unsigned w32) (at 7 n64 refl) fresh refl (λ u. refl) (λ u. tt) then
       turns 19 (sInt w8) (cast unsigned unsigned w8) (at 8 n64 refl) fresh refl (λ u. refl) (λ u. tt) then
@@ -65,11 +62,9 @@ module _ (w : World) where
       -- stored(next.set, goal, count + 1)
       does 20 (sInt w64) (add unsigned) (at 6 n64 refl) (lit w64 1 tt) fresh refl (λ u. refl) (λ u. tt) then
       calls (stored bs) [] 0 (num-of 9 (field 1 ∷ []) next-set-of refl (num 3 n64 refl (num 20 n64 refl none))) fresh tt refl then
-      gone 1 (value-room head-type) free gone 3 (over (sInt w64)) free gone 5 (over (sInt w64)) free gone 6 (over (sInt w64)) free gone 7 (over (sInt w64)) free gone 8 (over (sInt w64)) free gone 9 (value-room next-type) free gone 20 (over (sInt w64)) free
-      returned tt)) (gone 13 (over sBool) free skipped tt)) (
+      gone 1 (value-room head-type) free gone 3 (over (sInt w64)) free gone 5 (over (sInt w64)) free gone 6 (over (sInt w64)) free gone 7 (over (sInt w64)) free gone 8 (over (sInt w64)) free gone 9 (value-room next-type) free gone 20 (over (sInt w64)) free returned tt)) (gone 13 (over sBool) free skipped tt)) (
       calls (turned bs) [] 0 (num-lit 3 tt (num 6 n64 refl none)) fresh tt refl then
-      gone 1 (value-room head-type) free gone 3 (over (sInt w64)) free gone 5 (over (sInt w64)) free gone 6 (over (sInt w64)) free gone 7 (over (sInt w64)) free gone 8 (over (sInt w64)) free gone 9 (value-room next-type) free
-      returned tt)
+      gone 1 (value-room head-type) free gone 3 (over (sInt w64)) free gone 5 (over (sInt w64)) free gone 6 (over (sInt w64)) free gone 7 (over (sInt w64)) free gone 8 (over (sInt w64)) free gone 9 (value-room next-type) free returned tt)
 
   laid : Laid job w this.Code.env this.Code.function walk
   laid κs qs a good pre bs =

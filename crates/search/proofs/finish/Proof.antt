@@ -36,19 +36,16 @@ module _ (w : World) where
       joined (begun job κs qs) (branches 6 flag refl (
       gone 6 (over sBool) free here (begun job κs qs) $
       calls (without-plan bs) [] 0 (val-arg turn-type 2 [] (holds turn-type) refl none) fresh tt refl then
-      gone 2 (value-room turn-type) free
-      returned tt) (gone 6 (over sBool) free skipped tt)) (
+      gone 2 (value-room turn-type) free returned tt) (gone 6 (over sBool) free skipped tt)) (
       does 4 (sInt w64) (sub unsigned) (part 2 (field 1 ∷ []) count-of refl) (lit w64 1 tt) fresh refl (λ u. refl) (λ u. tt) then here (Has-at κs qs) $
       -- length = read_back(store, at, &mut *plan)
-      begins 2 _ free
-      lends byte 3 7 1 2 (named 1) same fresh refl tt refl refl then
+      begins 2 _ free lends byte 3 7 1 2 (named 1) same fresh refl tt refl refl then
       slices byte 7 8 2 (ptr byte erased mut) same fresh (part 3 (field 1 ∷ []) (owed-len byte (named 1) 1 2 (lease (κs .1 .0) (qs .1 .0))) refl) refl refl then
       calls (read-back bs) (0 ∷ 2 ∷ []) 5 (shr-arg (node-type .R) 0 tt 1 (a-lent (node-type .R) (named 0) 0) refl (num 4 n64 refl (mut-arg byte 1 tt 8 same (mut-all byte erased 2) refl none))) fresh (tt, (tt, tt)) refl then
       ends 2 refl free backs byte 8 3 1 2 (named 1) (lease (κs .1 .0) (qs .1 .0)) same same refl refl free forgets 2 refl free here (Has-n κs qs) $
       puts 9 (sInt w64) (part 3 (field 1 ∷ []) (mut-len byte (named 1) 1) refl) fresh refl (λ u. refl) (λ u. tt) then
       calls (with-plan bs) [] 0 (num-of 2 (field 1 ∷ []) count-of refl (num 5 n64 refl (num 9 n64 refl none))) fresh tt refl then
-      gone 2 (value-room turn-type) free gone 4 (over (sInt w64)) free gone 5 (over (sInt w64)) free gone 9 (over (sInt w64)) free
-      returned tt)
+      gone 2 (value-room turn-type) free gone 4 (over (sInt w64)) free gone 5 (over (sInt w64)) free gone 9 (over (sInt w64)) free returned tt)
 
   laid : Laid job w this.Code.env this.Code.function walk
   laid κs qs a good pre bs =

@@ -46,22 +46,18 @@ module _ (w : World) where
       joined (Has-r κs qs) (branches 6 flag refl (
       gone 6 (over sBool) free here (Has-r κs qs) $
       calls (refused bs) [] 0 (val-arg reading-type 4 [] (holds reading-type) refl none) fresh tt refl then
-      gone 4 (value-room reading-type) free
-      returned tt) (gone 6 (over sBool) free skipped tt)) (
+      gone 4 (value-room reading-type) free returned tt) (gone 6 (over sBool) free skipped tt)) (
       calls (head-of bs) [] 5 (val-arg reading-type 4 [] (holds reading-type) refl none) fresh tt refl then
       gone 4 (value-room reading-type) free here (Has-h κs qs) $
       -- search_from(h, sheet, h.initial, h.goal, store, plan)
-      begins 3 _ free
-      lends (node-type .R) 2 7 1 3 (named 1) same fresh refl tt refl refl then
+      begins 3 _ free lends (node-type .R) 2 7 1 3 (named 1) same fresh refl tt refl refl then
       slices (node-type .R) 7 8 3 (ptr (node-type .R) erased mut) same fresh (part 2 (field 1 ∷ []) (owed-len (node-type .R) (named 1) 1 3 (lease (κs .1 .0) (qs .1 .0))) refl) refl refl then
-      begins 4 _ free
-      lends byte 3 9 2 4 (named 2) same fresh refl tt refl refl then
+      begins 4 _ free lends byte 3 9 2 4 (named 2) same fresh refl tt refl refl then
       slices byte 9 10 4 (ptr byte erased mut) same fresh (part 3 (field 1 ∷ []) (owed-len byte (named 2) 2 4 (lease (κs .1 .1 .0) (qs .1 .1 .0))) refl) refl refl then
       calls (search-from bs) (0 ∷ 3 ∷ 4 ∷ []) 0 (val-arg head-type 5 [] (holds head-type) refl (shr-arg byte 0 tt 1 (a-lent byte (named 0) 0) refl (num-of 5 (field 2 ∷ []) initial-of refl (num-of 5 (field 3 ∷ []) goal-of refl (mut-arg (node-type .R) 1 tt 8 same (mut-all (node-type .R) erased 3) refl (mut-arg byte 2 tt 10 same (mut-all byte erased 4) refl none)))))) fresh (tt, (tt, (tt, tt))) refl then
       ends 4 refl free backs byte 10 3 2 4 (named 2) (lease (κs .1 .1 .0) (qs .1 .1 .0)) same same refl refl free forgets 4 refl free
       ends 3 refl free backs (node-type .R) 8 2 1 3 (named 1) (lease (κs .1 .0) (qs .1 .0)) same same refl refl free forgets 3 refl free
-      gone 5 (value-room head-type) free
-      returned tt)
+      gone 5 (value-room head-type) free returned tt)
 
   laid : Laid job w this.Code.env this.Code.function walk
   laid κs qs a good pre bs = (

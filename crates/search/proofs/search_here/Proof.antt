@@ -34,8 +34,7 @@ module _ (w : World) where
       calls (search bs) (0 ∷ 2 ∷ 3 ∷ []) 0 (shr-arg byte 0 tt 1 (a-lent byte (named 0) 0) refl (mut-arg (node-type .R) 1 tt 6 same (mut-all (node-type .R) erased 2) refl (mut-arg byte 2 tt 8 same (mut-all byte erased 3) refl none))) fresh (tt, (tt, (tt, tt))) refl then
       ends 3 refl free backs byte 8 2 1 3 (named 1) (lease (κs .1 .0) (qs .1 .0)) same same refl refl free forgets 3 refl free
       ends 2 refl free backs-array node-type 6 3 2 4096 same same refl free forgets 2 refl free
-      gone 3 (arr-room node-type 4096) free
-      returned tt
+      gone 3 (arr-room node-type 4096) free returned tt
 
   laid : Laid job w this.Code.env this.Code.function walk
   laid κs qs a good pre bs = λ γ. (refl, λ γ₂. (refl, ((λ _. tt), λ p. (refl, λ e. (refl, λ f. ((refl, (kept (a .1 .0) e, tt)), record { store′ = p .2 .1 .0; searched = p .5 }))))))

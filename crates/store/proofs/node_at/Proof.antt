@@ -14,8 +14,7 @@ module _ (w : World) where
       does 4 sPtr offset (part 1 (field 0 ∷ []) (shr-ptr the-row (named 0) 0) refl) (at 3 n64 refl) fresh refl (λ u. refl) (λ u. tt) then
       fetches node-type nothing 1 4 5 0 (ptr the-row (named 0) imm) (λ u. u .1 .1 .0) same same fresh refl tt refl refl then
       copies-value node-type 5 0 (holds node-type) fresh refl refl then
-      gone 2 (over (sInt w64)) free gone 3 (over (sInt w64)) free gone 4 (over sPtr) free gone 5 (value-room node-type) free
-      returned tt
+      gone 2 (over (sInt w64)) free gone 3 (over (sInt w64)) free gone 4 (over sPtr) free gone 5 (value-room node-type) free returned tt
 
   laid : Laid job w this.Code.env this.Code.function walk
   laid κs qs a good pre bs = (record { fits = omega (arith, good .0 .1, pre) }, (tt, ((refl, refl, pre), λ g. ((refl, (tt, tt)), refl))))

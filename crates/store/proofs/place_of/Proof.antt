@@ -41,13 +41,11 @@ module _ (w : World) where
       does 6 sBool eq (part 5 (field 0 ∷ []) set-of refl) (at 3 n64 refl) (over sBool) refl (λ u. refl) (λ u. tt) then
       joined _ (branches 6 flag refl (
       puts 0 (sInt w64) (at 4 n64 refl) fresh refl (λ u. refl) (λ u. tt) then
-      gone 2 (over (sInt w64)) free gone 3 (over (sInt w64)) free gone 4 (over (sInt w64)) free gone 5 (value-room node-type) free gone 6 (over sBool) free
-      returned tt) (skipped tt)) (
+      gone 2 (over (sInt w64)) free gone 3 (over (sInt w64)) free gone 4 (over (sInt w64)) free gone 5 (value-room node-type) free gone 6 (over sBool) free returned tt) (skipped tt)) (
       last tt (does 4 (sInt w64) (add unsigned) (at 4 n64 refl) (lit w64 1 tt) (over (sInt w64)) refl (λ u. refl) (λ u. tt)
       with gone 5 (value-room node-type) with gone 6 (over sBool))))))
       (puts 0 (sInt w64) (at 2 n64 refl) fresh refl (λ u. refl) (λ u. tt) then
-      gone 2 (over (sInt w64)) free gone 3 (over (sInt w64)) free gone 4 (over (sInt w64)) free
-      returned tt)
+      gone 2 (over (sInt w64)) free gone 3 (over (sInt w64)) free gone 4 (over (sInt w64)) free returned tt)
 
   laid : Laid job w this.Code.env this.Code.function walk
   laid κs qs a good pre bs =

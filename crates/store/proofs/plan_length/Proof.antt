@@ -1,10 +1,10 @@
 -- `store::plan_length` meets its contract: a walk of its MIR, and what the walk asks. The loop keeps how far behind it the place `at` lies.
-use Rattle.walks.proofs.Facts.{_≡_, refl, ap, sym, subst, _≢_, List, [], _∷_, ℕ, _<_, _+_, arith, length, eqb-true, eqb-false, not-true, not-false}
+use Rattle.walks.proofs.Facts.{_≡_, refl, ap, sym, subst, _≢_, List, [], _∷_, ℕ, _+_, arith, eqb-true, eqb-false, not-true, not-false}
 use Rattle.walks.proofs.Steps.{w64, add, ne, cast, unsigned, field, named, tablesOf, sInt, sBool, World, _then_, _free_, _with_, returned, last, skipped, left, joined, branches, loops, n64, flag, fresh, over, at, part, lit, puts, does, turns, gone, none, num, calls, shr-arg, a-lent, value-room, Walked, Laid, meets, Cited, cites, world}
 use Rattle.store.specs.declared.Node.{Node}
 use Rattle.store.specs.Nodes.{nodeAt}
 use Rattle.store.proofs.Node.{the-row}
-use Rattle.store.proofs.PathLaws.{Behind, behind-start, behind-there, behind-sooner, behind-more, behind-end}
+use Rattle.store.proofs.PathLaws.{Stepped, stepped, Behind, behind-start, behind-more, behind-end}
 use Rattle.store.proofs.Jobs as jobs
 use Rattle.store.proofs.Jobs.{plan-length as job}
 use Rattle.store.proofs.Types.{node-type, parent-of}
@@ -31,8 +31,7 @@ module _ (w : World) where
       last tt (does 4 (sInt w64) (add unsigned) (at 4 n64 refl) (lit w64 1 tt) (over (sInt w64)) refl (λ u. refl) (λ u. tt)
       with gone 5 (value-room node-type) with gone 6 (over sBool)))))
       (puts 0 (sInt w64) (at 4 n64 refl) fresh refl (λ u. refl) (λ u. tt) then
-      gone 2 (over (sInt w64)) free gone 3 (over (sInt w64)) free gone 4 (over (sInt w64)) free
-      returned tt)
+      gone 2 (over (sInt w64)) free gone 3 (over (sInt w64)) free gone 4 (over (sInt w64)) free returned tt)
 
   laid : Laid job w this.Code.env this.Code.function walk
   laid κs qs a good pre bs =
@@ -46,13 +45,12 @@ module _ (w : World) where
               (
                 (λ more.
                     let away : i ≢ 0 = eqb-false i 0 (not-true _ more) in
-                    let there : i < length l = behind-there inv away in
-                    let sooner : nodeAt l i .parent < i = behind-sooner inv away in (
-                      (λ _. there),
+                    let s : Stepped l i (inv .rest .path) = stepped (inv .rest .follows) away in (
+                      (λ _. s .there),
                       λ q.
                           let e : q .1 .parent ≡ nodeAt l i .parent = ap (λ (m : Node). m .parent) (q .5) in (
-                            record { fits = omega (arith, e, sooner, there, good .0 .0) },
-                            (record { fits = omega (arith, inv .below, away, good .1 .0) }, (q .1 .parent, omega (arith, e, sooner), ((q .1 .parent, n + 1), refl, subst (λ (p : ℕ). Behind l k p (n + 1)) (sym e) (behind-more inv away), refl))),
+                            record { fits = omega (arith, e, s .sooner, s .there, good .0 .0) },
+                            (record { fits = omega (arith, inv .below, away, good .1 .0) }, (q .1 .parent, omega (arith, e, s .sooner), ((q .1 .parent, n + 1), refl, subst (λ (p : ℕ). Behind l k p (n + 1)) (sym e) (behind-more inv away), refl))),
                           ),
                     )),
                 (λ f. ((refl, (tt, tt)), behind-end inv (eqb-true i 0 (not-false _ f)))),

@@ -17,8 +17,7 @@ module _ (w : World) where
       stores node-type 1 8 6 0 (ptr the-row (named 0) mut) (λ u. u .1 .1 .0) same same (holds node-type) refl tt refl refl then
       puts 0 sUnit unit fresh refl (λ u. refl) (λ u. tt) then
       gone 2 (over (sInt w64)) free gone 3 (over (sInt w64)) free gone 4 (over (sInt w32)) free gone 5 (over (sInt w8)) free
-      gone 6 (value-room node-type) free gone 7 (over (sInt w64)) free gone 8 (over sPtr) free
-      returned tt
+      gone 6 (value-room node-type) free gone 7 (over (sInt w64)) free gone 8 (over sPtr) free returned tt
 
   laid : Laid job w this.Code.env this.Code.function walk
   laid κs qs a good pre bs = (

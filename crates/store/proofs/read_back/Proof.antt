@@ -30,15 +30,13 @@ module _ (w : World) where
       joined (Has-n κs qs) (branches 6 flag refl (
       gone 6 (over sBool) free here (Has-n κs qs) $
       -- write_plan(store, at, plan, total)
-      begins 2 _ free
-      lends byte 3 8 1 2 (named 1) same fresh refl tt refl refl then
+      begins 2 _ free lends byte 3 8 1 2 (named 1) same fresh refl tt refl refl then
       slices byte 8 9 2 (ptr byte erased mut) same fresh (part 3 (field 1 ∷ []) (owed-len byte (named 1) 1 2 (lease (κs .1 .0) (qs .1 .0))) refl) refl refl then
       last tt (calls (write-plan bs) (0 ∷ 2 ∷ []) 7 (shr-arg the-row 0 tt 1 (a-lent the-row (named 0) 0) refl (num 2 n64 refl (mut-arg byte 1 tt 9 same (mut-all byte erased 2) refl (num 4 n64 refl none)))) fresh (tt, (tt, tt)) refl
       with gone 7 (over sUnit) with ends 2 refl with backs byte 9 3 1 2 (named 1) (lease (κs .1 .0) (qs .1 .0)) same same refl refl with forgets 2 refl))
       (gone 6 (over sBool) free skipped tt)) (
       puts 0 (sInt w64) (at 4 n64 refl) fresh refl (λ u. refl) (λ u. tt) then
-      gone 2 (over (sInt w64)) free gone 4 (over (sInt w64)) free
-      returned tt)
+      gone 2 (over (sInt w64)) free gone 4 (over (sInt w64)) free returned tt)
 
   laid : Laid job w this.Code.env this.Code.function walk
   laid κs qs a good pre bs =

@@ -1,10 +1,10 @@
 -- `store::write_plan` meets its contract: a walk of its MIR, and what the walk asks. The loop keeps what is written and what is left to write.
-use Rattle.walks.proofs.Facts.{_≡_, refl, sym, subst, _≢_, List, [], _∷_, ℕ, _<_, _≤_, _-_, arith, length, eqb-true, eqb-false, not-true, not-false}
+use Rattle.walks.proofs.Facts.{_≡_, refl, sym, subst, _≢_, List, [], _∷_, ℕ, _<_, _≤_, _-_, arith, eqb-true, eqb-false, not-true, not-false}
 use Rattle.walks.proofs.Steps.{w64, sub, ne, cast, unsigned, field, named, erased, mut, Lfts, Shares, tablesOf, Cx, sInt, sBool, sUnit, lease, After, setVals, World, Callee, here, _$_, _then_, _free_, _with_, returned, last, skipped, left, joined, branches, loops, begins, ends, forgets, n64, flag, fresh, over, same, at, part, lit, unit, puts, does, turns, gone, none, num, num-of, calls, ptr, kept, mut-all, owed-len, lends, slices, backs, mut-arg, shr-arg, a-lent, is, value-room, site, Walked, Laid, meets, Cited, cites, begun, world, u64}
 use Rattle.store.specs.declared.Node.{Node}
 use Rattle.store.specs.Nodes.{nodeAt}
 use Rattle.store.proofs.Node.{the-row}
-use Rattle.store.proofs.PathLaws.{Writing, writing-start, writing-there, writing-sooner, writing-room, writing-turn, writing-long, writing-end}
+use Rattle.store.proofs.PathLaws.{Stepped, stepped, Writing, writing-start, writing-away, writing-room, writing-turn, writing-long, writing-end}
 use Rattle.store.proofs.Jobs as jobs
 use Rattle.store.proofs.Jobs.{write-plan as job}
 use Rattle.store.proofs.Types.{byte, node-type, parent-of, command-of}
@@ -51,16 +51,14 @@ module _ (w : World) where
       does 6 (sInt w64) (sub unsigned) (at 6 n64 refl) (lit w64 1 tt) (over (sInt w64)) refl (λ u. refl) (λ u. tt) then
       here (Has-n κs qs) $
       -- put_command(&mut *plan, left, n.command)
-      begins 2 _ free
-      lends byte 3 10 1 2 (named 1) same fresh refl tt refl refl then
+      begins 2 _ free lends byte 3 10 1 2 (named 1) same fresh refl tt refl refl then
       slices byte 10 11 2 (ptr byte erased mut) same fresh (part 3 (field 1 ∷ []) (owed-len byte (named 1) 1 2 (lease (κs .1 .0) (qs .1 .0))) refl) refl refl then
       calls (put-command bs) (2 ∷ []) 9 (mut-arg byte 0 tt 11 same (mut-all byte erased 2) refl (num 6 n64 refl (num-of 7 (field 2 ∷ []) command-of refl none))) fresh (tt, tt) refl then
       gone 9 (over sUnit) free ends 2 refl free backs byte 11 3 1 2 (named 1) (lease (κs .1 .0) (qs .1 .0)) same same refl refl free forgets 2 refl free here (Has-n κs qs) $
       last tt (turns 5 (sInt w64) (cast unsigned unsigned w64) (part 7 (field 1 ∷ []) parent-of refl) (over (sInt w64)) refl (λ u. refl) (λ u. tt)
       with gone 7 (value-room node-type)))))
       (puts 0 sUnit unit fresh refl (λ u. refl) (λ u. tt) then
-      gone 2 (over (sInt w64)) free gone 4 (over (sInt w64)) free gone 5 (over (sInt w64)) free gone 6 (over (sInt w64)) free
-      returned tt)
+      gone 2 (over (sInt w64)) free gone 4 (over (sInt w64)) free gone 5 (over (sInt w64)) free gone 6 (over (sInt w64)) free returned tt)
 
   laid : Laid job w this.Code.env this.Code.function walk
   laid κs qs a good pre bs =
@@ -76,16 +74,15 @@ module _ (w : World) where
               (
                 (λ more.
                     let away : n ≢ 0 = eqb-false n 0 (not-true _ more) in
-                    let there : i < length l = writing-there inv away in
-                    let sooner : nodeAt l i .parent < i = writing-sooner inv away in (
-                      (λ _. there),
+                    let s : Stepped l i (inv .rest .path) = stepped (inv .rest .follows) (writing-away inv away) in (
+                      (λ _. s .there),
                       λ q. (
                         some n away,
                         λ γ. (
                           refl,
                           (
                             (λ _. writing-room inv away),
-                            λ p. (refl, λ e. (record { fits = omega (arith, parent-below l i (q .1) (q .5) sooner, there, good .0 .0) }, (n - 1, less n away, ((p .2 .0, (q .1 .parent, n - 1)), refl, writing-turn inv away (q .5) (p .5), refl)))),
+                            λ p. (refl, λ e. (record { fits = omega (arith, parent-below l i (q .1) (q .5) (s .sooner), s .there, good .0 .0) }, (n - 1, less n away, ((p .2 .0, (q .1 .parent, n - 1)), refl, writing-turn inv away (q .5) (p .5), refl)))),
                           ),
                         ),
                       ),
