@@ -3,12 +3,7 @@
 use mathlib.Core.List.{[], _∷_}
 use Prim.Native.Nat.{_+_, _≤_, _<_}
 use lib.ListN.{length}
-use package.mir.Syntax.{tyInt, tyBool, tyUnit, w64, w32, w8, erased, mut, imm}
-use denote.Ref.{now}
-use denote.Slice.{sliceTy}
-use borrow.Fn.Kinds.{pNum}
-use borrow.Kind.MutSlice.{pMutS}
-use borrow.Kind.ShrSlice.{pShrS}
+use Rattle.walks.proofs.Steps.{tyInt, tyBool, tyUnit, w64, w32, w8, erased, mut, imm, now, sliceTy, pNum, pMutS, pShrS, ptr, tyOf, param, result, Job, job-of}
 use Rattle.meaning.specs.Answers.{room as room-for}
 use Rattle.sets.specs.Words.{setOf}
 use Rattle.follow.specs.Following.{domainBy}
@@ -17,64 +12,33 @@ use Rattle.store.proofs.Types.{byte, node-type}
 use Rattle.explore.specs.Ready.{Ready}
 use Rattle.explore.specs.Turns.{NextAt, Going, Turned, Explored}
 use Rattle.explore.proofs.Types.{head-type, turn-type, next-type}
-use Rattle.walks.proofs.Slices.{ptr}
-use Rattle.walks.proofs.Values.{tyOf, param, result}
-use Rattle.walks.proofs.Meets.{Job}
 
 abbrev pub next-at : Job
-next-at = record {
-  n = 2;
-  ps = param head-type ∷ pShrS byte 0 tt ∷ pShrS (node-type .R) 1 tt ∷ pNum w64 ∷ pNum w64 ∷ pNum w64 ∷ [];
-  r = result next-type;
-  xs = tyOf node-type ∷ tyInt w64 ∷ tyInt w64 ∷ tyBool ∷ [];
-  m = 0;
-  Pre = λ κs a. (a .1 .1 .1 .1 .0 < a .1 .1 .1 .0) ∷ (a .1 .1 .1 .0 ≤ length (a .1 .1 .0 .now)) ∷ [];
-  Post = λ κs a z e. (NextAt (domainBy (a .0) (a .1 .0 .now)) (a .1 .1 .0 .now) (a .1 .1 .1 .0) (a .1 .1 .1 .1 .0) (a .1 .1 .1 .1 .1 .0) z) ∷ [];
-}
+next-at = job-of 2 0 (param head-type ∷ pShrS byte 0 tt ∷ pShrS (node-type .R) 1 tt ∷ pNum w64 ∷ pNum w64 ∷ pNum w64 ∷ []) (result next-type)
+    (tyOf node-type ∷ tyInt w64 ∷ tyInt w64 ∷ tyBool ∷ [])
+    (λ κs a. (a .1 .1 .1 .1 .0 < a .1 .1 .1 .0) ∷ (a .1 .1 .1 .0 ≤ length (a .1 .1 .0 .now)) ∷ [])
+    (λ κs a z e. (NextAt (domainBy (a .0) (a .1 .0 .now)) (a .1 .1 .0 .now) (a .1 .1 .1 .0) (a .1 .1 .1 .1 .0) (a .1 .1 .1 .1 .1 .0) z) ∷ [])
 
 abbrev pub try-at : Job
-try-at = record {
-  n = 2;
-  ps = param head-type ∷ pShrS byte 0 tt ∷ pNum w64 ∷ pMutS (node-type .R) 1 tt ∷ pNum w64 ∷ pNum w64 ∷ pNum w64 ∷ pNum w64 ∷ [];
-  r = result turn-type;
-  xs =
-      tyOf next-type ∷ tyBool ∷ ptr (node-type .R) erased imm ∷ sliceTy (ptr (node-type .R) erased imm) ∷ tyBool ∷ tyBool ∷ tyUnit ∷ ptr (node-type .R) erased mut ∷ sliceTy (ptr (node-type .R) erased mut)
-      ∷ tyInt w32 ∷ tyInt w8 ∷ tyInt w64 ∷ [];
-  m = 1;
-  Pre = λ κs a. (Going (domainBy (a .0) (a .1 .0 .now)) (setAt (a .1 .1 .1 .0 .now) 0) (setOf (a .1 .1 .0)) (a .1 .1 .1 .1 .0) (a .1 .1 .1 .1 .1 .1 .0) (a .1 .1 .1 .1 .1 .1 .1 .0) (a .1 .1 .1 .1 .1 .0) (a .1 .1 .1 .0 .now))
-      ∷ (a .1 .1 .1 .1 .1 .1 .0 < a .1 .1 .1 .1 .1 .0) ∷ (a .1 .1 .1 .1 .1 .1 .1 .0 < a .0 .commands) ∷ [];
-  Post = λ κs a z e. (Turned (domainBy (a .0) (a .1 .0 .now)) (setAt (a .1 .1 .1 .0 .now) 0) (setOf (a .1 .1 .0)) (a .1 .1 .1 .1 .0) (a .1 .1 .1 .1 .1 .1 .0) (a .1 .1 .1 .1 .1 .1 .1 .0 + 1) (a .1 .1 .1 .1 .1 .0) (a .1 .1 .1 .0 .now) (now (e .1 .1 .1 .0)) z) ∷ [];
-}
+try-at = job-of 2 1 (param head-type ∷ pShrS byte 0 tt ∷ pNum w64 ∷ pMutS (node-type .R) 1 tt ∷ pNum w64 ∷ pNum w64 ∷ pNum w64 ∷ pNum w64 ∷ []) (result turn-type)
+    (tyOf next-type ∷ tyBool ∷ ptr (node-type .R) erased imm ∷ sliceTy (ptr (node-type .R) erased imm) ∷ tyBool ∷ tyBool ∷ tyUnit ∷ ptr (node-type .R) erased mut ∷ sliceTy (ptr (node-type .R) erased mut) ∷ tyInt w32 ∷ tyInt w8 ∷ tyInt w64 ∷ [])
+    (λ κs a. (Going (domainBy (a .0) (a .1 .0 .now)) (setAt (a .1 .1 .1 .0 .now) 0) (setOf (a .1 .1 .0)) (a .1 .1 .1 .1 .0) (a .1 .1 .1 .1 .1 .1 .0) (a .1 .1 .1 .1 .1 .1 .1 .0) (a .1 .1 .1 .1 .1 .0) (a .1 .1 .1 .0 .now)) ∷ (a .1 .1 .1 .1 .1 .1 .0 < a .1 .1 .1 .1 .1 .0) ∷ (a .1 .1 .1 .1 .1 .1 .1 .0 < a .0 .commands) ∷ [])
+    (λ κs a z e. (Turned (domainBy (a .0) (a .1 .0 .now)) (setAt (a .1 .1 .1 .0 .now) 0) (setOf (a .1 .1 .0)) (a .1 .1 .1 .1 .0) (a .1 .1 .1 .1 .1 .1 .0) (a .1 .1 .1 .1 .1 .1 .1 .0 + 1) (a .1 .1 .1 .1 .1 .0) (a .1 .1 .1 .0 .now) (now (e .1 .1 .1 .0)) z) ∷ [])
 
 abbrev pub expand : Job
-expand = record {
-  n = 2;
-  ps = param head-type ∷ pShrS byte 0 tt ∷ pNum w64 ∷ pMutS (node-type .R) 1 tt ∷ pNum w64 ∷ pNum w64 ∷ pNum w64 ∷ [];
-  r = result turn-type;
-  xs = tyInt w64 ∷ tyInt w64 ∷ tyOf turn-type ∷ tyBool ∷ ptr (node-type .R) erased mut ∷ sliceTy (ptr (node-type .R) erased mut) ∷ [];
-  m = 1;
-  Pre = λ κs a. (Going (domainBy (a .0) (a .1 .0 .now)) (setAt (a .1 .1 .1 .0 .now) 0) (setOf (a .1 .1 .0)) (a .1 .1 .1 .1 .0) (a .1 .1 .1 .1 .1 .1 .0) 0 (a .1 .1 .1 .1 .1 .0) (a .1 .1 .1 .0 .now)) ∷ (a .1 .1 .1 .1 .1 .1 .0 < a .1 .1 .1 .1 .1 .0) ∷ [];
-  Post = λ κs a z e. (Turned (domainBy (a .0) (a .1 .0 .now)) (setAt (a .1 .1 .1 .0 .now) 0) (setOf (a .1 .1 .0)) (a .1 .1 .1 .1 .0) (a .1 .1 .1 .1 .1 .1 .0 + 1) 0 (a .1 .1 .1 .1 .1 .0) (a .1 .1 .1 .0 .now) (now (e .1 .1 .1 .0)) z) ∷ [];
-}
+expand = job-of 2 1 (param head-type ∷ pShrS byte 0 tt ∷ pNum w64 ∷ pMutS (node-type .R) 1 tt ∷ pNum w64 ∷ pNum w64 ∷ pNum w64 ∷ []) (result turn-type)
+    (tyInt w64 ∷ tyInt w64 ∷ tyOf turn-type ∷ tyBool ∷ ptr (node-type .R) erased mut ∷ sliceTy (ptr (node-type .R) erased mut) ∷ [])
+    (λ κs a. (Going (domainBy (a .0) (a .1 .0 .now)) (setAt (a .1 .1 .1 .0 .now) 0) (setOf (a .1 .1 .0)) (a .1 .1 .1 .1 .0) (a .1 .1 .1 .1 .1 .1 .0) 0 (a .1 .1 .1 .1 .1 .0) (a .1 .1 .1 .0 .now)) ∷ (a .1 .1 .1 .1 .1 .1 .0 < a .1 .1 .1 .1 .1 .0) ∷ [])
+    (λ κs a z e. (Turned (domainBy (a .0) (a .1 .0 .now)) (setAt (a .1 .1 .1 .0 .now) 0) (setOf (a .1 .1 .0)) (a .1 .1 .1 .1 .0) (a .1 .1 .1 .1 .1 .1 .0 + 1) 0 (a .1 .1 .1 .1 .1 .0) (a .1 .1 .1 .0 .now) (now (e .1 .1 .1 .0)) z) ∷ [])
 
 abbrev pub run : Job
-run = record {
-  n = 2;
-  ps = param head-type ∷ pShrS byte 0 tt ∷ pNum w64 ∷ pMutS (node-type .R) 1 tt ∷ pNum w64 ∷ [];
-  r = result turn-type;
-  xs = tyInt w64 ∷ tyInt w64 ∷ tyOf turn-type ∷ tyBool ∷ ptr (node-type .R) erased mut ∷ sliceTy (ptr (node-type .R) erased mut) ∷ [];
-  m = 1;
-  Pre = λ κs a. (Going (domainBy (a .0) (a .1 .0 .now)) (setAt (a .1 .1 .1 .0 .now) 0) (setOf (a .1 .1 .0)) (a .1 .1 .1 .1 .0) 0 0 1 (a .1 .1 .1 .0 .now)) ∷ [];
-  Post = λ κs a z e. (Explored (domainBy (a .0) (a .1 .0 .now)) (setAt (a .1 .1 .1 .0 .now) 0) (setOf (a .1 .1 .0)) (a .1 .1 .1 .1 .0) 1 (a .1 .1 .1 .0 .now) (now (e .1 .1 .1 .0)) z) ∷ [];
-}
+run = job-of 2 1 (param head-type ∷ pShrS byte 0 tt ∷ pNum w64 ∷ pMutS (node-type .R) 1 tt ∷ pNum w64 ∷ []) (result turn-type)
+    (tyInt w64 ∷ tyInt w64 ∷ tyOf turn-type ∷ tyBool ∷ ptr (node-type .R) erased mut ∷ sliceTy (ptr (node-type .R) erased mut) ∷ [])
+    (λ κs a. (Going (domainBy (a .0) (a .1 .0 .now)) (setAt (a .1 .1 .1 .0 .now) 0) (setOf (a .1 .1 .0)) (a .1 .1 .1 .1 .0) 0 0 1 (a .1 .1 .1 .0 .now)) ∷ [])
+    (λ κs a z e. (Explored (domainBy (a .0) (a .1 .0 .now)) (setAt (a .1 .1 .1 .0 .now) 0) (setOf (a .1 .1 .0)) (a .1 .1 .1 .1 .0) 1 (a .1 .1 .1 .0 .now) (now (e .1 .1 .1 .0)) z) ∷ [])
 
 abbrev pub explore : Job
-explore = record {
-  n = 2;
-  ps = param head-type ∷ pShrS byte 0 tt ∷ pNum w64 ∷ pNum w64 ∷ pMutS (node-type .R) 1 tt ∷ [];
-  r = result turn-type;
-  xs = tyInt w64 ∷ tyOf turn-type ∷ tyInt w64 ∷ tyBool ∷ tyUnit ∷ ptr (node-type .R) erased mut ∷ sliceTy (ptr (node-type .R) erased mut) ∷ ptr (node-type .R) erased mut ∷ sliceTy (ptr (node-type .R) erased mut) ∷ [];
-  m = 1;
-  Pre = λ κs a. (Ready (domainBy (a .0) (a .1 .0 .now)) (setOf (a .1 .1 .0))) ∷ [];
-  Post = λ κs a z e. (Explored (domainBy (a .0) (a .1 .0 .now)) (setOf (a .1 .1 .0)) (setOf (a .1 .1 .1 .0)) (room-for (length (a .1 .1 .1 .1 .0 .now))) 0 (a .1 .1 .1 .1 .0 .now) (now (e .1 .1 .1 .1 .0)) z) ∷ [];
-}
+explore = job-of 2 1 (param head-type ∷ pShrS byte 0 tt ∷ pNum w64 ∷ pNum w64 ∷ pMutS (node-type .R) 1 tt ∷ []) (result turn-type)
+    (tyInt w64 ∷ tyOf turn-type ∷ tyInt w64 ∷ tyBool ∷ tyUnit ∷ ptr (node-type .R) erased mut ∷ sliceTy (ptr (node-type .R) erased mut) ∷ ptr (node-type .R) erased mut ∷ sliceTy (ptr (node-type .R) erased mut) ∷ [])
+    (λ κs a. (Ready (domainBy (a .0) (a .1 .0 .now)) (setOf (a .1 .1 .0))) ∷ [])
+    (λ κs a z e. (Explored (domainBy (a .0) (a .1 .0 .now)) (setOf (a .1 .1 .0)) (setOf (a .1 .1 .1 .0)) (room-for (length (a .1 .1 .1 .1 .0 .now))) 0 (a .1 .1 .1 .1 .0 .now) (now (e .1 .1 .1 .1 .0)) z) ∷ [])

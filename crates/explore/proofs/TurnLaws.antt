@@ -23,7 +23,7 @@ use Rattle.meaning.proofs.ProgressLaws.{progress-none, progress-seen, progress-
 use Rattle.store.specs.declared.Node.{Node}
 use Rattle.store.specs.Nodes.{node, nothing, nodeAt, setAt, meant}
 use Rattle.explore.specs.Ready.{Ready}
-use Rattle.explore.specs.Turns.{ends-plan, ends-no-plan, ends-no-room, goes-on, turn, Old, not-sendable, seen, Fresh, Tested, Stored, Kept, Going, Ended, Turned, Explored}
+use Rattle.explore.specs.Turns.{ends-plan, ends-no-plan, ends-no-room, goes-on, turn, Old, not-sendable, seen, Fresh, Tested, Stored, Kept, Going, LastInside, AllOutside, MoreThanRoom, Ended, Turned, Explored}
 use Rattle.explore.specs.declared.Turn.{Turn}
 
 -- ---- the later places
@@ -64,6 +64,22 @@ start-is {D} {x} r h =
     let s = r .stored .holds 0 h in
     s .its-set ∙ ap (λ (e : Entry). e .set) (at-fun (s .at-place) (place-0 D (r .ready .well-formed) x (r .ready .start)))
 
+-- ---- what goes on, and what has ended
+
+-- the same places and another command to be tried next
+going-on : {D : Domain} {x g room i a j b count : ℕ} {l : List Node} → Going D x g room i a count l → Progress D x count j b → Going D x g room j b count l
+going-on r p = record { ready = r .ready; progress = p; stored = r .stored; none-inside = r .none-inside; fits = r .fits; there = r .there; most = r .most }
+
+module _ {D : Domain} {x g room : ℕ} {t : Turn} {l : List Node} (r : Ready D x) (s : Stored D x (t .count) l) (f : t .count ≤ room) (h : room ≤ length l) where
+  ended-plan : t .kind ≡ ends-plan → LastInside D x g (t .count) → Ended D x g room t l
+  ended-plan z v = record { ready = r; stored = s; fits = f; there = h; kinds = omega (arith, z); plan = λ p. v; no-plan = λ p. absurd (omega (arith, p, z)); no-room = λ p. absurd (omega (arith, p, z)) }
+
+  ended-none : t .kind ≡ ends-no-plan → AllOutside D x g (t .count) → Ended D x g room t l
+  ended-none z v = record { ready = r; stored = s; fits = f; there = h; kinds = omega (arith, z); plan = λ p. absurd (omega (arith, p, z)); no-plan = λ p. v; no-room = λ p. absurd (omega (arith, p, z)) }
+
+  ended-full : t .kind ≡ ends-no-room → MoreThanRoom D x g room (t .count) → Ended D x g room t l
+  ended-full z v = record { ready = r; stored = s; fits = f; there = h; kinds = omega (arith, z); plan = λ p. absurd (omega (arith, p, z)); no-plan = λ p. absurd (omega (arith, p, z)); no-room = λ p. v }
+
 -- ---- one try
 
 module _ {D : Domain} {x g room i a count : ℕ} {l : List Node} (r : Going D x g room i a count l) (h : i < count) where
@@ -73,7 +89,7 @@ module _ {D : Domain} {x g room i a count : ℕ} {l : List Node} (r : Going D x 
   -- the command gives nothing new
   old-on : Old D l count i a → Going D x g room i (a + 1) count l
   unfolding here
-  old-on o = record { ready = r .ready; progress = go o; stored = r .stored; none-inside = r .none-inside; fits = r .fits; there = r .there; most = r .most }
+  old-on o = going-on r (go o)
     where
       go : Old D l count i a → Progress D x count i (a + 1)
       go (not-sendable q) = progress-none D (r .ready .well-formed) x (r .ready .start) (r .progress) h (here .at-place) (subst (λ (y : ℕ). step D y a ≡ none) (here .its-set) q)
@@ -108,20 +124,11 @@ module _ {D : Domain} {x g room i a count : ℕ} {l : List Node} (r : Going D x 
       kept = kept-all count l;
       grown = omega arith;
       on = λ z. absurd (omega (arith, z));
-      ended = λ z. record {
-        ready = r .ready;
-        stored = r .stored;
-        fits = r .fits;
-        there = r .there;
-        kinds = omega arith;
-        plan = λ p. absurd (omega (arith, p));
-        no-plan = λ p. absurd (omega (arith, p));
-        no-room = λ p. record {
-          is-full = q;
-          more = subst (λ (n : ℕ). n < length (listing D x)) q (not-all D (r .ready .well-formed) x (r .ready .start) (r .progress) h (here .at-place) taken fresh);
-          none-inside = λ k e u. outside k e u;
-        };
-      };
+      ended = λ z. ended-full (r .ready) (r .stored) (r .fits) (r .there) refl (record {
+        is-full = q;
+        more = subst (λ (n : ℕ). n < length (listing D x)) q (not-all D (r .ready .well-formed) x (r .ready .start) (r .progress) h (here .at-place) taken fresh);
+        none-inside = outside;
+      });
     }
       where
         outside : (k : ℕ) (e : Entry) → FirstInside g (listing D x) k e → room ≤ k
@@ -155,21 +162,12 @@ module _ {D : Domain} {x g room i a count : ℕ} {l : List Node} (r : Going D x 
       }
 
       new-ended : {t : Turn} → t .kind ≡ ends-plan → t .count ≡ count + 1 → y ⊆ g → Ended D x g room t l′
-      new-ended {t} z c v = record {
-        ready = r .ready;
-        stored = subst (λ (n : ℕ). Stored D x n l′) (sym c) more;
-        fits = omega (arith, b, c);
-        there = omega (arith, r .there, as-long);
-        kinds = omega (arith, z);
-        plan = λ p. record {
-          place = count;
-          entry = record { set = y; seq = then (here .entry .seq) a };
-          is-last = c;
-          first = record { at-place = new-at; inside = v; none-before = λ j f k u. r .none-inside j f k u };
-        };
-        no-plan = λ p. absurd (omega (arith, p, z));
-        no-room = λ p. absurd (omega (arith, p, z));
-      }
+      new-ended {t} z c v = ended-plan (r .ready) (subst (λ (n : ℕ). Stored D x n l′) (sym c) more) (omega (arith, b, c)) (omega (arith, r .there, as-long)) z (record {
+        place = count;
+        entry = record { set = y; seq = then (here .entry .seq) a };
+        is-last = c;
+        first = record { at-place = new-at; inside = v; none-before = r .none-inside };
+      })
 
       pub tried-new : {t : Turn} → Tested y g (count + 1) t → Turned D x g room i (a + 1) count l l′ t
       tried-new {t} u = record {
@@ -236,15 +234,7 @@ module _ {D : Domain} {x g room i first : ℕ} {before after : List Node} {count
   expanded {t} h e = subst (Turned D x g room (i + 1) 0 first before after) (sym e) record {
     kept = r .kept;
     grown = r .grown;
-    on = λ z. record {
-      ready = r .going .ready;
-      progress = progress-turn D (r .going .ready .well-formed) x (r .going .ready .start) (subst (Progress D x count i) (omega (arith, h, r .at-most)) (r .going .progress));
-      stored = r .going .stored;
-      none-inside = r .going .none-inside;
-      fits = r .going .fits;
-      there = r .going .there;
-      most = r .going .most;
-    };
+    on = λ z. going-on (r .going) (progress-turn D (r .going .ready .well-formed) x (r .going .ready .start) (subst (Progress D x count i) (omega (arith, h, r .at-most)) (r .going .progress)));
     ended = λ z. absurd (z refl);
   }
 
@@ -278,16 +268,8 @@ module _ {D : Domain} {x g room : ℕ} {before after : List Node} {count i : ℕ
   ran {t} h e = subst (Explored D x g room 1 before after) (sym e) record {
     kept = r .kept;
     grown = r .grown;
-    ended = record {
-      ready = r .going .ready;
-      stored = r .going .stored;
-      fits = r .going .fits;
-      there = r .going .there;
-      kinds = omega arith;
-      plan = λ z. absurd (omega (arith, z));
-      no-plan = λ z. record { are-all = all; none-inside = λ k f u. r .going .none-inside k f (omega (arith, at-lt u, all)) u };
-      no-room = λ z. absurd (omega (arith, z));
-    };
+    ended = ended-none (r .going .ready) (r .going .stored) (r .going .fits) (r .going .there) refl
+        (record { are-all = all; none-inside = λ k f u. r .going .none-inside k f (omega (arith, at-lt u, all)) u });
   }
     where
       all : count ≡ length (listing D x)
@@ -304,16 +286,8 @@ module _ {D : Domain} {x : ℕ} (r : Ready D x) (g room : ℕ) (l : List Node) (
   no-place {t} z e = subst (Explored D x g room 0 l l) (sym e) record {
     kept = kept-all 0 l;
     grown = omega arith;
-    ended = record {
-      ready = r;
-      stored = record { holds = λ k h. absurd (not-suc-le-zero h) };
-      fits = omega arith;
-      there = there;
-      kinds = omega arith;
-      plan = λ p. absurd (omega (arith, p));
-      no-plan = λ p. absurd (omega (arith, p));
-      no-room = λ p. record { is-full = sym z; more = omega (arith, at-lt at-0, z); none-inside = λ k f u. omega (arith, z) };
-    };
+    ended = ended-full r (record { holds = λ k h. absurd (not-suc-le-zero h) }) (omega arith) there refl
+        (record { is-full = sym z; more = omega (arith, at-lt at-0, z); none-inside = λ k f u. omega (arith, z) });
   }
 
   -- the initial set is stored at place 0
@@ -340,21 +314,12 @@ module _ {D : Domain} {x : ℕ} (r : Ready D x) (g room : ℕ) (l : List Node) (
         go q v = record {
           kept = subst (λ (n : ℕ). Kept n l l′) (sym (u .count-is)) kept-1;
           grown = omega arith;
-          ended = record {
-            ready = r;
-            stored = subst (λ (n : ℕ). Stored D x n l′) (sym (u .count-is)) stored-1;
-            fits = omega (arith, some, u .count-is);
-            there = omega (arith, there, as-long₀);
-            kinds = omega (arith, q);
-            plan = λ p. record {
-              place = 0;
-              entry = root x;
-              is-last = u .count-is;
-              first = record { at-place = at-0; inside = v; none-before = λ j f h. absurd (not-suc-le-zero h) };
-            };
-            no-plan = λ p. absurd (omega (arith, p, q));
-            no-room = λ p. absurd (omega (arith, p, q));
-          };
+          ended = ended-plan r (subst (λ (n : ℕ). Stored D x n l′) (sym (u .count-is)) stored-1) (omega (arith, some, u .count-is)) (omega (arith, there, as-long₀)) q (record {
+            place = 0;
+            entry = root x;
+            is-last = u .count-is;
+            first = record { at-place = at-0; inside = v; none-before = λ j f h. absurd (not-suc-le-zero h) };
+          });
         }
 
     -- it is not

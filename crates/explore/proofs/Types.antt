@@ -1,16 +1,12 @@
 -- The declared types as a walk takes them, and their fields that are read.
 use mathlib.Core.Path.{refl}
-use package.mir.Syntax.{tyInt, tyBool, w64, w8}
-use package.mir.Val.{vint, vbool}
-use borrow.Table.Rows.{whole}
+use Rattle.walks.proofs.Steps.{tyInt, tyBool, w64, w8, vint, vbool, whole, Site, SeesAt, Value, struct-of, field-of}
 use Rattle.sheet.proofs.Head as Head
 use Rattle.sheet.proofs.Head.Laws as HeadL
 use Rattle.explore.proofs.Turn as Turn
 use Rattle.explore.proofs.Turn.Laws as TurnL
 use Rattle.explore.proofs.Next as Next
 use Rattle.explore.proofs.Next.Laws as NextL
-use Rattle.walks.proofs.Walk.{Site, SeesAt}
-use Rattle.walks.proofs.Values.{Value, struct-of, field-of}
 
 abbrev pub head-type : Value
 head-type = struct-of Head.the-type HeadL.the-laws HeadL.the-copy HeadL.the-plain

@@ -55,15 +55,12 @@ module _ {D : Domain} {x count : ℕ} {l : List Node} (r : Ready D x) (s : Store
   way-back {k} {e} c u = back (suc k) k e (omega arith) c u
 
 -- a plan that was found can be read back
-pub can-read : {D : Domain} {x g room : ℕ} {t : Turn} {l : List Node} → Ended D x g room t l → CanRead l t
-can-read {t = t} {l} v z =
-    let i = v .plan z in (
-      omega (arith, i .is-last),
-      record {
-        path = i .entry .seq;
-        follows = subst (λ (k : ℕ). Path l k (i .entry .seq)) (omega (arith, i .is-last)) (way-back (v .ready) (v .stored) (omega (arith, v .fits, v .there)) (omega (arith, i .is-last)) (i .first .at-place));
-      },
-    )
+module _ {D : Domain} {x g room : ℕ} {t : Turn} {l : List Node} (v : Ended D x g room t l) where
+  plan-back : (i : LastInside D x g (t .count)) → Path l (t .count - 1) (i .entry .seq)
+  plan-back i = subst (λ (k : ℕ). Path l k (i .entry .seq)) (omega (arith, i .is-last)) (way-back (v .ready) (v .stored) (omega (arith, v .fits, v .there)) (omega (arith, i .is-last)) (i .first .at-place))
+
+  pub can-read : CanRead l t
+  can-read z = let i = v .plan z in (omega (arith, i .is-last), record { path = i .entry .seq; follows = plan-back i })
 
 -- ---- the store
 
@@ -106,10 +103,6 @@ module _ {D : Domain} {x g : ℕ} {store store′ : List Node} {t : Turn} {plan 
           i : LastInside D x g (t .count)
           i = v .ended .plan z
 
-          back-to : Path store′ (t .count - 1) (i .entry .seq)
-          back-to = subst (λ (k : ℕ). Path store′ k (i .entry .seq)) (omega (arith, i .is-last))
-              (way-back (v .ended .ready) (v .ended .stored) (omega (arith, v .ended .fits, v .ended .there)) (omega (arith, i .is-last)) (i .first .at-place))
-
           last : suc (i .place) ≡ t .count
           last = omega (arith, i .is-last)
 
@@ -118,12 +111,12 @@ module _ {D : Domain} {x g : ℕ} {store store′ : List Node} {t : Turn} {plan 
 
           fits : Dec (length (i .entry .seq) ≤ length plan) → SearchDone D x g store store′ plan plan′ a
           fits (yes h) =
-              let w = f .plan z back-to h in
+              let w = f .plan z (plan-back (v .ended) i) h in
               with-says (found (i .place) (i .entry .seq)) last (answers-plan g (listing D x) (room (length store)) (length plan) (i .first) below h)
               (ap (λ (b : Answer). searchedOf b (i .entry .seq)) (w .0) ∙ ap (λ (n : ℕ). searchedOf (answer Plan 0 n (length (i .entry .seq))) (i .entry .seq)) (sym last)) (w .1)
           fits (no h) =
               let h′ = lt-of-not-le h in
-              let w = f .too-long z back-to h′ in
+              let w = f .too-long z (plan-back (v .ended) i) h′ in
               with-says (tooLong (i .place) (i .entry .seq)) last (answers-too-long g (listing D x) (room (length store)) (length plan) (i .first) below h′)
               (ap (λ (b : Answer). searchedOf b []) (w .0) ∙ ap (λ (n : ℕ). searchedOf (answer (Refused 14) (length (i .entry .seq)) n (length (i .entry .seq))) []) (sym last)) (w .1)
 

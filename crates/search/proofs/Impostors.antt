@@ -25,7 +25,7 @@ use Rattle.search.specs.Done.{searchedOf, answer, SheetSearched}
 use Rattle.search.specs.declared.Verdict.the-variants.{Plan, NoPlan, Refused}
 use Rattle.search.specs.declared.Answer.{Answer}
 use Rattle.search.proofs.SheetLaws.{sheet-ready}
-use Rattle.search.proofs.Unique.{done-unique}
+use Rattle.search.proofs.Unique.{plan-not-refused, plan-not-none, none-not-refused, done-unique}
 
 -- ---- the promise leaves what is computed
 
@@ -92,15 +92,6 @@ unfolding computed.answer firstInside listing expanded tried add hasSet step sen
 only-drift = only reads-drift [] refl refl refl refl
 
 -- ---- the impostors
-
-plan-not-refused : {n : ℕ} → ¬ (Plan ≡ Refused n)
-plan-not-refused e = let z : _≡_ {A = ℕ} 0 1 = cc in omega arith
-
-plan-not-none : ¬ (Plan ≡ NoPlan)
-plan-not-none e = let z : _≡_ {A = ℕ} 0 1 = cc in omega arith
-
-none-not-refused : {n : ℕ} → ¬ (NoPlan ≡ Refused n)
-none-not-refused e = let z : _≡_ {A = ℕ} 0 1 = cc in omega arith
 
 says : {a c : Answer} → a ≡ c → c .verdict ≡ a .verdict
 says e = ap (λ (o : Answer). o .verdict) (sym e)

@@ -3,7 +3,6 @@
 use mathlib.Core.Path.{_≡_, refl, sym, ap, _∙_}
 use mathlib.Core.List.{List}
 use Prim.Native.Nat.{ℕ}
-use native.Mathlib.Omega.{arith}
 use lib.ListN.{take}
 use Rattle.meaning.specs.Runs.{Good}
 use Rattle.meaning.proofs.Meanings.{FirstGood}
@@ -16,18 +15,13 @@ use Rattle.store.specs.declared.Node.{Node}
 use Rattle.search.specs.Done.{SheetSearched}
 use Rattle.search.specs.declared.Verdict.the-variants.{Plan, NoPlan, Refused}
 use Rattle.search.specs.declared.Answer.{Answer}
+use Rattle.search.proofs.Unique.{plan-not-refused, none-not-refused}
 use Rattle.search.proofs.Means.{found-is-first, no-plan-is-good}
 
 -- the sheet is accepted, with that head
 pub record AcceptedAs (l : List ℕ) : Type 0 where
   pub head : Head
   pub accepted : reading l ≡ reading-is.Accepted head
-
-plan-not-refused : {n : ℕ} → ¬ (Refused n ≡ Plan)
-plan-not-refused e = let z : _≡_ {A = ℕ} 0 1 = cc in omega arith
-
-none-not-refused : {n : ℕ} → ¬ (Refused n ≡ NoPlan)
-none-not-refused e = let z : _≡_ {A = ℕ} 0 1 = cc in omega arith
 
 module _ (l : List ℕ) {store s : List Node} {plan p : List ℕ} {a : Answer} (u : SheetSearched l store s plan p a) where
   -- a verdict that is no refusal
@@ -39,7 +33,7 @@ module _ (l : List ℕ) {store s : List Node} {plan p : List ℕ} {a : Answer} (
       go (reading-is.Refused f) e = absurd (ne (f .number) (sym (ap (λ (o : Answer). o .verdict) (u .refused e .answer-is))))
 
   pub plan-tells : a .verdict ≡ Plan → (t : AcceptedAs l) × FirstGood (domainIn l) (t .head .initial) (t .head .goal) (take (a .length) p)
-  plan-tells q = let t = no-refusal (λ n e. plan-not-refused (e ∙ q)) in (t, found-is-first l (t .accepted) u q)
+  plan-tells q = let t = no-refusal (λ n e. plan-not-refused (sym (e ∙ q))) in (t, found-is-first l (t .accepted) u q)
 
   pub no-plan-tells : a .verdict ≡ NoPlan → (t : AcceptedAs l) × ((q : List ℕ) → ¬ Good (domainIn l) (t .head .initial) (t .head .goal) q)
-  no-plan-tells q = let t = no-refusal (λ n e. none-not-refused (e ∙ q)) in (t, no-plan-is-good l (t .accepted) u q)
+  no-plan-tells q = let t = no-refusal (λ n e. none-not-refused (sym (e ∙ q))) in (t, no-plan-is-good l (t .accepted) u q)

@@ -1,16 +1,12 @@
 -- The declared types as a walk takes them, and their fields that are read.
 use mathlib.Core.Path.{refl}
-use package.mir.Syntax.{tyInt, w64}
-use package.mir.Val.{vint}
-use borrow.Table.Rows.{whole}
+use Rattle.walks.proofs.Steps.{tyInt, w64, vint, whole, Site, SeesAt, Value, struct-of, enum-of, field-of}
 use Rattle.sheet.proofs.Head as Head
 use Rattle.sheet.proofs.Head.Laws as HeadL
 use Rattle.sheet.proofs.Reading as Reading
 use Rattle.sheet.proofs.Reading.Laws as ReadingL
 use Rattle.search.proofs.Answer as Answer
 use Rattle.search.proofs.Answer.Laws as AnswerL
-use Rattle.walks.proofs.Walk.{Site, SeesAt}
-use Rattle.walks.proofs.Values.{Value, struct-of, enum-of, field-of}
 
 abbrev pub reading-type : Value
 reading-type = enum-of Reading.the-type ReadingL.the-laws ReadingL.the-copy ReadingL.the-plain tt

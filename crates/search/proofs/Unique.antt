@@ -26,6 +26,15 @@ use Rattle.search.proofs.SheetLaws.{sheet-ready}
 
 -- ---- the values tell two of each kind apart
 
+pub plan-not-refused : {n : ℕ} → ¬ (Plan ≡ Refused n)
+plan-not-refused e = let z : _≡_ {A = ℕ} 0 1 = cc in omega arith
+
+pub plan-not-none : ¬ (Plan ≡ NoPlan)
+plan-not-none e = let z : _≡_ {A = ℕ} 0 1 = cc in omega arith
+
+pub none-not-refused : {n : ℕ} → ¬ (NoPlan ≡ Refused n)
+none-not-refused e = let z : _≡_ {A = ℕ} 0 1 = cc in omega arith
+
 pub verdict-inj : (v w : Verdict) → verdictOf v ≡ verdictOf w → v ≡ w
 verdict-inj Plan Plan e = refl
 verdict-inj Plan NoPlan e = absurd (let z : _≡_ {A = ℕ} 0 1 = cc in omega arith)

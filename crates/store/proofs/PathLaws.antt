@@ -4,8 +4,8 @@ use mathlib.Core.Path.{_≡_, refl, sym, ap, _∙_, subst}
 use mathlib.Core.Logic.{_≢_}
 use mathlib.Core.List.{List, [], _∷_, _++_}
 use Prim.Native.Nat.{ℕ, suc, _+_, _-_, _≤_, _<_}
-use native.Mathlib.Omega.{arith}
 use native.Mathlib.Nat.{add-zero}
+use native.Mathlib.Omega.{arith}
 use lib.ListN.{length, take, drop, set, getD, length-append, length-drop, take-append-drop}
 use lib.Seq.{take-suc, append-snoc, set-at, length-take-le}
 use Rattle.meaning.specs.Listing.{then}
@@ -60,12 +60,6 @@ behind-start {l} {at} h = record {
 }
 
 module _ {l : List Node} {at i n : ℕ} (b : Behind l at i n) (ne : i ≢ 0) where
-  pub behind-there : i < length l
-  behind-there = stepped (b .rest .follows) ne .there
-
-  pub behind-sooner : nodeAt l i .parent < i
-  behind-sooner = stepped (b .rest .follows) ne .sooner
-
   pub behind-more : Behind l at (nodeAt l i .parent) (n + 1)
   behind-more =
       let s = stepped (b .rest .follows) ne in
@@ -100,33 +94,24 @@ writing-start {l} {at} {total} {before} h f = record {
   joins = λ {p} q. subst (λ (r : List ℕ). Path l at r) (sym (append-nil p)) q;
   as-long = add-zero total;
   fits = f;
-  now-is = sym (take-drop total before);
+  now-is = sym (take-append-drop total before);
 }
-  where
-    take-drop : (n : ℕ) (b : List ℕ) → take n b ++ drop n b ≡ b
-    take-drop n b = take-append-drop n b
 
 module _ {l : List Node} {at total : ℕ} {before after : List ℕ} {i left : ℕ} (w : Writing l at total before after i left) (ne : left ≢ 0) where
-  away : i ≢ 0
-  away = not-zero (w .rest .follows) (λ z. ne (sym (w .rest .as-long) ∙ z))
-
-  pub writing-there : i < length l
-  writing-there = stepped (w .rest .follows) away .there
-
-  pub writing-sooner : nodeAt l i .parent < i
-  writing-sooner = stepped (w .rest .follows) away .sooner
+  pub writing-away : i ≢ 0
+  writing-away = not-zero (w .rest .follows) (λ z. ne (sym (w .rest .as-long) ∙ z))
 
   pub writing-room : left - 1 < length after
   writing-room = omega (arith, ap length (w .now-is), length-append (take left before) (w .passed ++ drop total before), length-take-le left before (omega (arith, w .as-long, w .fits)))
 
   pub writing-more : Writing l at total before (set after (left - 1) (nodeAt l i .command)) (nodeAt l i .parent) (left - 1)
   writing-more =
-      let s = stepped (w .rest .follows) away in
+      let s = stepped (w .rest .follows) writing-away in
       let a : ℕ = nodeAt l i .command in
       record {
         rest = record { path = s .rest; follows = s .follows; as-long = omega (arith, w .rest .as-long, ap length (s .last), then-long (s .rest) a) };
         passed = a ∷ w .passed;
-        joins = λ {p} f. subst (λ (q : List ℕ). Path l at q) (append-snoc p a (w .passed)) (w .joins (step away (s .there) (s .sooner) f refl));
+        joins = λ {p} f. subst (λ (q : List ℕ). Path l at q) (append-snoc p a (w .passed)) (w .joins (step writing-away (s .there) (s .sooner) f refl));
         as-long = omega (arith, w .as-long);
         fits = w .fits;
         now-is = put (left - 1) (omega arith);

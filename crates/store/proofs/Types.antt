@@ -1,15 +1,8 @@
 -- A record of the store as a walk takes it, and its fields.
 use mathlib.Core.Path.{refl}
-use package.mir.Syntax.{tyInt, w64, w32, w8}
-use package.mir.Val.{vint}
-use denote.RattleType.{RattleType}
-use borrow.Table.Rows.{whole}
-use borrow.Table.Referent.{rtF, fInt}
-use borrow.Struct.Make.{FromWTs, u64-wt, u32-wt, u8-wt}
+use Rattle.walks.proofs.Steps.{tyInt, w64, w32, w8, vint, RattleType, whole, rtF, fInt, FromWTs, u64-wt, u32-wt, u8-wt, Site, SeesAt, Value, struct-of, field-of}
 use Rattle.store.proofs.Node.{the-row, the-type}
 use Rattle.store.proofs.Node.Laws.{the-laws, the-copy, the-plain}
-use Rattle.walks.proofs.Walk.{Site, SeesAt}
-use Rattle.walks.proofs.Values.{Value, struct-of, field-of}
 
 abbrev pub byte : RattleType
 byte = rtF (fInt w8)

@@ -2,20 +2,10 @@
 use mathlib.Core.Path.{sym, ap}
 use Rattle.sheet.specs.Answers.{shownHead}
 use borrow.Author.Needs.{needs}
-use Rattle.search.proofs.head_of.Statement.{statement}
-use Rattle.search.proofs.head_of.Tie as tie
+use Rattle.search.proofs.head_of as this
 
-enum-known-r : tie.Need-enum-known-r
-enum-known-r c = search needs
-
-enum-known-r-2 : tie.Need-enum-known-r-2
-enum-known-r-2 c = search needs
-
-returns : tie.Need-returns
-returns c = search needs
-
-returns-2 : tie.Need-returns-2
+returns-2 : this.Tie.Need-returns-2
 returns-2 c = sym (ap shownHead (c .before .r2 .given .1))
 
-pub head-of-spec : {M : Type 1} → statement M
-head-of-spec = tie.close (tie.spec enum-known-r enum-known-r-2 returns returns-2)
+pub head-of-spec : {M : Type 1} → this.Statement.statement M
+head-of-spec = this.Tie.close (this.Tie.spec (λ c. search needs) (λ c. search needs) (λ c. search needs) returns-2)

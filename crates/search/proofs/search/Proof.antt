@@ -1,101 +1,65 @@
 -- `search::search` meets its contract: a walk of its MIR, and what the walk asks.
-use mathlib.Core.Path.{_≡_, refl, sym, _∙_}
-use mathlib.Core.Bool.{false}
-use mathlib.Core.List.{List, [], _∷_}
-use Prim.Native.Nat.{ℕ}
-use package.mir.Syntax.{field, named, erased, mut}
-use contract.Lifetimes.{Lfts, Shares}
-use contract.Running.{tablesOf}
-use borrow.Table.Row.{Cx, sBool, lease}
-use borrow.Table.Rows.{sc-here}
-use borrow.Rule.Scalar.{After}
-use borrow.Fn.Function.{Γin}
-use borrow.Fn.World.{World}
-use Rattle.sheet.proofs.read.Symbol as read-def
-use Rattle.sheet.proofs.read.Kinds as read-kinds
-use Rattle.sheet.proofs.read.Reads as read-reads
-use Rattle.sheet.proofs.read.Met as read-thm
+use Rattle.walks.proofs.Facts.{_≡_, refl, sym, _∙_, false, List, [], _∷_, ℕ}
+use Rattle.walks.proofs.Steps.{field, named, erased, mut, Lfts, Shares, tablesOf, Cx, sBool, lease, sc-here, After, World, Callee, here, _$_, _then_, _free_, returned, skipped, joined, branches, begins, ends, forgets, flag, fresh, over, same, part, gone, none, num-of, calls, is, holds, value-room, val-arg, ptr, kept, mut-all, owed-len, lends, slices, backs, mut-arg, shr-arg, a-lent, site, Walked, Laid, meets, Cited, cites, begun, world}
+use Rattle.sheet.proofs.read as read-fn
 use Rattle.store.proofs.Types.{byte, node-type}
 use Rattle.explore.proofs.Types.{head-type}
-use Rattle.walks.proofs.Walk.{Callee, now as here, _$_, _then_, _free_, returned, skipped, joined, branches, begins, ends, forgets, flag, fresh, over, same, part, gone, none, num-of, calls}
-use Rattle.walks.proofs.Values.{is, holds, value-room, val-arg}
-use Rattle.walks.proofs.Slices.{ptr, kept, mut-all, owed-len, lends, slices, backs, mut-arg, shr-arg, a-lent}
-use Rattle.walks.proofs.Meets.{site, Walked, Laid, closes, Cited, cites}
 use Rattle.search.specs.Endings.{isRefused}
 use Rattle.search.proofs.SheetLaws.{engine-ready, engine-done, sheet-refused}
 use Rattle.search.proofs.Types.{reading-type, initial-of, goal-of}
 use Rattle.search.proofs.Jobs as jobs
 use Rattle.search.proofs.Jobs.{search as job}
-use Rattle.search.proofs.search_from.Symbol as from-def
-use Rattle.search.proofs.search_from.Met as from-thm
-use Rattle.search.proofs.is_refused.Symbol as test-def
-use Rattle.search.proofs.is_refused.Kinds as test-kinds
-use Rattle.search.proofs.is_refused.Reads as test-reads
-use Rattle.search.proofs.is_refused.Met as test-thm
-use Rattle.search.proofs.refused.Symbol as refused-def
-use Rattle.search.proofs.refused.Kinds as refused-kinds
-use Rattle.search.proofs.refused.Reads as refused-reads
-use Rattle.search.proofs.refused.Met as refused-thm
-use Rattle.search.proofs.head_of.Symbol as head-def
-use Rattle.search.proofs.head_of.Kinds as head-kinds
-use Rattle.search.proofs.head_of.Reads as head-reads
-use Rattle.search.proofs.head_of.Met as head-thm
-use Rattle.search.proofs.search.Key.{name}
-use Rattle.search.proofs.search.Statement.{statement}
-use Rattle.search.proofs.search.Code as code
+use Rattle.search.proofs.search_from as from-fn
+use Rattle.search.proofs.is_refused as test-fn
+use Rattle.search.proofs.refused as refused-fn
+use Rattle.search.proofs.head_of as head-fn
+use Rattle.search.proofs.search as this
 
 module _ (w : World) where
-  read : (bs : List ℕ) → Callee (site job w code.env bs) 1 read-kinds.ps read-kinds.r read-reads.Asked read-reads.Learnt read-def.name
-  read bs = record { known = read-reads.known w code.env read-def.name read-def.routine code.calls-sheet·read (read-thm.met (w .𝓤) (w .H) (w .𝓜) (w .𝓖) (w .𝓡)) }
+  read : (bs : List ℕ) → Callee (site job w this.Code.env bs) 1 read-fn.Kinds.ps read-fn.Kinds.r read-fn.Reads.Asked read-fn.Reads.Learnt read-fn.Symbol.name
+  read bs = record { known = read-fn.Reads.known w this.Code.env read-fn.Symbol.name read-fn.Symbol.routine this.Code.calls-sheet·read (read-fn.Met.met (w .𝓤) (w .H) (w .𝓜) (w .𝓖) (w .𝓡)) }
 
-  is-refused : (bs : List ℕ) → Callee (site job w code.env bs) 0 test-kinds.ps test-kinds.r test-reads.Asked test-reads.Learnt test-def.name
-  is-refused bs = record { known = test-reads.known w code.env test-def.name test-def.routine code.calls-search·is-refused (test-thm.met (w .𝓤) (w .H) (w .𝓜) (w .𝓖) (w .𝓡)) }
+  is-refused : (bs : List ℕ) → Callee (site job w this.Code.env bs) 0 test-fn.Kinds.ps test-fn.Kinds.r test-fn.Reads.Asked test-fn.Reads.Learnt test-fn.Symbol.name
+  is-refused bs = record { known = test-fn.Reads.known w this.Code.env test-fn.Symbol.name test-fn.Symbol.routine this.Code.calls-search·is-refused (test-fn.Met.met (w .𝓤) (w .H) (w .𝓜) (w .𝓖) (w .𝓡)) }
 
-  refused : (bs : List ℕ) → Callee (site job w code.env bs) 0 refused-kinds.ps refused-kinds.r refused-reads.Asked refused-reads.Learnt refused-def.name
-  refused bs = record { known = refused-reads.known w code.env refused-def.name refused-def.routine code.calls-search·refused (refused-thm.met (w .𝓤) (w .H) (w .𝓜) (w .𝓖) (w .𝓡)) }
+  refused : (bs : List ℕ) → Callee (site job w this.Code.env bs) 0 refused-fn.Kinds.ps refused-fn.Kinds.r refused-fn.Reads.Asked refused-fn.Reads.Learnt refused-fn.Symbol.name
+  refused bs = record { known = refused-fn.Reads.known w this.Code.env refused-fn.Symbol.name refused-fn.Symbol.routine this.Code.calls-search·refused (refused-fn.Met.met (w .𝓤) (w .H) (w .𝓜) (w .𝓖) (w .𝓡)) }
 
-  head-of : (bs : List ℕ) → Callee (site job w code.env bs) 0 head-kinds.ps head-kinds.r head-reads.Asked head-reads.Learnt head-def.name
-  head-of bs = record { known = head-reads.known w code.env head-def.name head-def.routine code.calls-search·head-of (head-thm.met (w .𝓤) (w .H) (w .𝓜) (w .𝓖) (w .𝓡)) }
+  head-of : (bs : List ℕ) → Callee (site job w this.Code.env bs) 0 head-fn.Kinds.ps head-fn.Kinds.r head-fn.Reads.Asked head-fn.Reads.Learnt head-fn.Symbol.name
+  head-of bs = record { known = head-fn.Reads.known w this.Code.env head-fn.Symbol.name head-fn.Symbol.routine this.Code.calls-search·head-of (head-fn.Met.met (w .𝓤) (w .H) (w .𝓜) (w .𝓖) (w .𝓡)) }
 
-  search-from : Cited job jobs.search-from w code.env from-def.name
-  search-from = cites job jobs.search-from w code.env from-def.name from-def.routine code.calls-search·search-from (from-thm.met (w .𝓤) (w .H) (w .𝓜) (w .𝓖) (w .𝓡))
+  search-from : Cited job jobs.search-from w this.Code.env from-fn.Symbol.name
+  search-from = cites job jobs.search-from w this.Code.env from-fn.Symbol.name from-fn.Symbol.routine this.Code.calls-search·search-from (from-fn.Met.met (w .𝓤) (w .H) (w .𝓜) (w .𝓖) (w .𝓡))
 
   -- the contexts: with the reading, and with the head
   module _ (κs : Lfts 3) (qs : Shares 3) where
-    abbrev Begun : Cx
-    Begun = Γin 3 (job .ps) (job .r) (job .xs) 2 κs qs
-
     abbrev Has-r : Cx
-    Has-r = After Begun 4 (is reading-type)
+    Has-r = After (begun job κs qs) 4 (is reading-type)
 
     abbrev Has-h : Cx
-    Has-h = After Begun 5 (is head-type)
+    Has-h = After (begun job κs qs) 5 (is head-type)
 
-  abbrev walk : Walked job w code.env code.function
+  abbrev walk : Walked job w this.Code.env this.Code.function
   walk κs qs bs =
       calls (read bs) (0 ∷ []) 4 (shr-arg byte 0 tt 1 (a-lent byte (named 0) 0) refl none) fresh (tt, tt) refl then here (Has-r κs qs) $
       calls (is-refused bs) [] 6 (val-arg reading-type 4 [] (holds reading-type) refl none) fresh tt refl then here (After (Has-r κs qs) 6 (sc-here sBool)) $
       joined (Has-r κs qs) (branches 6 flag refl (
       gone 6 (over sBool) free here (Has-r κs qs) $
       calls (refused bs) [] 0 (val-arg reading-type 4 [] (holds reading-type) refl none) fresh tt refl then
-      gone 4 (value-room reading-type) free
-      returned tt) (gone 6 (over sBool) free skipped tt)) (
+      gone 4 (value-room reading-type) free returned tt) (gone 6 (over sBool) free skipped tt)) (
       calls (head-of bs) [] 5 (val-arg reading-type 4 [] (holds reading-type) refl none) fresh tt refl then
       gone 4 (value-room reading-type) free here (Has-h κs qs) $
       -- search_from(h, sheet, h.initial, h.goal, store, plan)
-      begins 3 _ free
-      lends (node-type .R) 2 7 1 3 (named 1) same fresh refl tt refl refl then
+      begins 3 _ free lends (node-type .R) 2 7 1 3 (named 1) same fresh refl tt refl refl then
       slices (node-type .R) 7 8 3 (ptr (node-type .R) erased mut) same fresh (part 2 (field 1 ∷ []) (owed-len (node-type .R) (named 1) 1 3 (lease (κs .1 .0) (qs .1 .0))) refl) refl refl then
-      begins 4 _ free
-      lends byte 3 9 2 4 (named 2) same fresh refl tt refl refl then
+      begins 4 _ free lends byte 3 9 2 4 (named 2) same fresh refl tt refl refl then
       slices byte 9 10 4 (ptr byte erased mut) same fresh (part 3 (field 1 ∷ []) (owed-len byte (named 2) 2 4 (lease (κs .1 .1 .0) (qs .1 .1 .0))) refl) refl refl then
       calls (search-from bs) (0 ∷ 3 ∷ 4 ∷ []) 0 (val-arg head-type 5 [] (holds head-type) refl (shr-arg byte 0 tt 1 (a-lent byte (named 0) 0) refl (num-of 5 (field 2 ∷ []) initial-of refl (num-of 5 (field 3 ∷ []) goal-of refl (mut-arg (node-type .R) 1 tt 8 same (mut-all (node-type .R) erased 3) refl (mut-arg byte 2 tt 10 same (mut-all byte erased 4) refl none)))))) fresh (tt, (tt, (tt, tt))) refl then
       ends 4 refl free backs byte 10 3 2 4 (named 2) (lease (κs .1 .1 .0) (qs .1 .1 .0)) same same refl refl free forgets 4 refl free
       ends 3 refl free backs (node-type .R) 8 2 1 3 (named 1) (lease (κs .1 .0) (qs .1 .0)) same same refl refl free forgets 3 refl free
-      gone 5 (value-room head-type) free
-      returned tt)
+      gone 5 (value-room head-type) free returned tt)
 
-  laid : Laid job w code.env code.function walk
+  laid : Laid job w this.Code.env this.Code.function walk
   laid κs qs a good pre bs = (
     (λ _. tt),
     λ r. (
@@ -111,7 +75,6 @@ module _ (w : World) where
     ),
   )
 
-pub search-spec : {M : Type 1} → statement M
-unfolding code.routine tablesOf
-search-spec {M} 𝓤 H 𝓜 𝓖 𝓡 =
-    let w : World = record { M = M; 𝓤 = 𝓤; H = H; 𝓜 = 𝓜; 𝓖 = 𝓖; 𝓡 = 𝓡 } in closes job w code.env name code.function (walk w) (laid w) (code.unfolded 𝓤 H 𝓜 𝓡)
+pub search-spec : {M : Type 1} → this.Statement.statement M
+unfolding this.Code.routine tablesOf
+search-spec 𝓤 H 𝓜 𝓖 𝓡 = meets job this.Code.env this.Key.name this.Code.function walk laid (world 𝓤 H 𝓜 𝓖 𝓡) (this.Code.unfolded 𝓤 H 𝓜 𝓡)

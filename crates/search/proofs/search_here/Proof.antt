@@ -1,57 +1,32 @@
 -- `search::search_here` meets its contract: the store is a local array, lent to `search` beside the plan buffer. Its signature has no reference to a
 -- record, so its callers need no walk.
-use mathlib.Core.Path.{refl}
-use mathlib.Core.List.{[], _∷_}
-use lib.Dec.{lit<}
-use package.mir.Syntax.{tyArray, w64, w32, w8, field, named, erased, mut}
-use denote.Ref.{now}
-use denote.Slice.{sliceTy}
-use contract.Running.{tablesOf}
-use borrow.Table.Row.{lease}
-use borrow.Rule.Scalar.{After}
-use borrow.Rule.Array.Rows.{arrF}
-use borrow.Fn.Function.{Γin}
-use borrow.Fn.World.{World}
-use borrow.Kind.MutSlice.{pMutS}
-use borrow.Kind.ShrSlice.{pShrS}
+use Rattle.walks.proofs.Facts.{refl, [], _∷_, lit<}
+use Rattle.walks.proofs.Steps.{tyArray, w64, w32, w8, field, named, erased, mut, now, sliceTy, tablesOf, lease, After, arrF, World, pMutS, pShrS, here, _$_, _then_, _free_, _with_, returned, begins, ends, forgets, fresh, same, part, lit, big, gone, none, calls, tyOf, result, holds, value-room, makes-struct, _&_, nil, ptr, kept, mut-all, owed-len, lends, slices, backs, mut-arg, shr-arg, a-lent, arr-ptr, arr-room, fills, as-array, lends-array, backs-array, Job, job-of, Walked, Laid, meets, Cited, cites, begun, world}
 use Rattle.store.specs.Nodes.{nothing}
 use Rattle.store.proofs.Node.{the-type}
 use Rattle.store.proofs.Node.Laws.{the-laws, the-plain}
 use Rattle.store.proofs.Types.{byte, node-type, node-wt}
-use Rattle.walks.proofs.Walk.{now as here, _$_, _then_, _free_, _with_, returned, begins, ends, forgets, fresh, same, part, lit, big, gone, none, calls}
-use Rattle.walks.proofs.Values.{tyOf, result, holds, value-room, makes-struct, _&_, nil}
-use Rattle.walks.proofs.Slices.{ptr, kept, mut-all, owed-len, lends, slices, backs, mut-arg, shr-arg, a-lent}
-use Rattle.walks.proofs.Elements.{arr-ptr, arr-room, fills, as-array, lends-array, backs-array}
-use Rattle.walks.proofs.Meets.{Job, Walked, Laid, closes, Cited, cites}
 use Rattle.search.specs.Done.{SearchedHere}
 use Rattle.search.proofs.Types.{answer-type}
 use Rattle.search.proofs.Jobs as jobs
-use Rattle.search.proofs.search.Symbol as search-def
-use Rattle.search.proofs.search.Met as search-thm
-use Rattle.search.proofs.search_here.Key.{name}
-use Rattle.search.proofs.search_here.Statement.{statement}
-use Rattle.search.proofs.search_here.Code as code
+use Rattle.search.proofs.search as search-fn
+use Rattle.search.proofs.search_here as this
 
 abbrev job : Job
-job = record {
-  n = 2;
-  ps = pShrS byte 0 tt ∷ pMutS byte 1 tt ∷ [];
-  r = result answer-type;
-  xs = tyArray (tyOf node-type) 4096 ∷ tyOf node-type ∷ arr-ptr node-type 4096 ∷ sliceTy (ptr (node-type .R) erased mut) ∷ ptr byte erased mut ∷ sliceTy (ptr byte erased mut) ∷ [];
-  m = 2;
-  Pre = λ κs a. [];
-  Post = λ κs a z e. (SearchedHere 4096 (a .0 .now) (a .1 .0 .now) (now (e .1 .0)) z) ∷ [];
-}
+job = job-of 2 2 (pShrS byte 0 tt ∷ pMutS byte 1 tt ∷ []) (result answer-type)
+    (tyArray (tyOf node-type) 4096 ∷ tyOf node-type ∷ arr-ptr node-type 4096 ∷ sliceTy (ptr (node-type .R) erased mut) ∷ ptr byte erased mut ∷ sliceTy (ptr byte erased mut) ∷ [])
+    (λ κs a. [])
+    (λ κs a z e. (SearchedHere 4096 (a .0 .now) (a .1 .0 .now) (now (e .1 .0)) z) ∷ [])
 
 module _ (w : World) where
-  search : Cited job jobs.search w code.env search-def.name
-  search = cites job jobs.search w code.env search-def.name search-def.routine code.calls-search·search (search-thm.met (w .𝓤) (w .H) (w .𝓜) (w .𝓖) (w .𝓡))
+  search : Cited job jobs.search w this.Code.env search-fn.Symbol.name
+  search = cites job jobs.search w this.Code.env search-fn.Symbol.name search-fn.Symbol.routine this.Code.calls-search·search (search-fn.Met.met (w .𝓤) (w .H) (w .𝓜) (w .𝓖) (w .𝓡))
 
-  abbrev walk : Walked job w code.env code.function
+  abbrev walk : Walked job w this.Code.env this.Code.function
   walk κs qs bs =
       makes-struct the-type the-laws the-plain node-wt 4 (lit w64 0 tt & lit w32 0 tt & lit w8 0 tt & nil) (λ m. nothing) fresh refl (λ m. refl) then
       fills node-type 3 4 4096 (holds node-type) fresh refl refl with as-array node-type 3 4096 same then
-      gone 4 (value-room node-type) free here (After (Γin 2 (job .ps) (job .r) (job .xs) 2 κs qs) 3 (arrF (node-type .R) 4096 0)) $
+      gone 4 (value-room node-type) free here (After (begun job κs qs) 3 (arrF (node-type .R) 4096 0)) $
       begins 2 _ free lends-array node-type 3 5 4096 2 same fresh refl (lit< tt, lit< tt) then
       slices (node-type .R) 5 6 2 (arr-ptr node-type 4096) same fresh (big w64 4096 (record { fits = lit< tt })) refl refl then
       begins 3 _ free lends byte 2 7 1 3 (named 1) same fresh refl tt refl refl then
@@ -59,13 +34,11 @@ module _ (w : World) where
       calls (search bs) (0 ∷ 2 ∷ 3 ∷ []) 0 (shr-arg byte 0 tt 1 (a-lent byte (named 0) 0) refl (mut-arg (node-type .R) 1 tt 6 same (mut-all (node-type .R) erased 2) refl (mut-arg byte 2 tt 8 same (mut-all byte erased 3) refl none))) fresh (tt, (tt, (tt, tt))) refl then
       ends 3 refl free backs byte 8 2 1 3 (named 1) (lease (κs .1 .0) (qs .1 .0)) same same refl refl free forgets 3 refl free
       ends 2 refl free backs-array node-type 6 3 2 4096 same same refl free forgets 2 refl free
-      gone 3 (arr-room node-type 4096) free
-      returned tt
+      gone 3 (arr-room node-type 4096) free returned tt
 
-  laid : Laid job w code.env code.function walk
+  laid : Laid job w this.Code.env this.Code.function walk
   laid κs qs a good pre bs = λ γ. (refl, λ γ₂. (refl, ((λ _. tt), λ p. (refl, λ e. (refl, λ f. ((refl, (kept (a .1 .0) e, tt)), record { store′ = p .2 .1 .0; searched = p .5 }))))))
 
-pub search-here-spec : {M : Type 1} → statement M
-unfolding code.routine tablesOf
-search-here-spec {M} 𝓤 H 𝓜 𝓖 𝓡 =
-    let w : World = record { M = M; 𝓤 = 𝓤; H = H; 𝓜 = 𝓜; 𝓖 = 𝓖; 𝓡 = 𝓡 } in closes job w code.env name code.function (walk w) (laid w) (code.unfolded 𝓤 H 𝓜 𝓡)
+pub search-here-spec : {M : Type 1} → this.Statement.statement M
+unfolding this.Code.routine tablesOf
+search-here-spec 𝓤 H 𝓜 𝓖 𝓡 = meets job this.Code.env this.Key.name this.Code.function walk laid (world 𝓤 H 𝓜 𝓖 𝓡) (this.Code.unfolded 𝓤 H 𝓜 𝓡)

@@ -1,30 +1,14 @@
 -- `store::place_of` meets its contract: a walk of its MIR, and what the walk asks. The loop keeps that no place below i holds the set.
-use mathlib.Core.Path.{_≡_, refl, ap, sym, _∙_}
-use mathlib.Core.Logic.{_⊎_, inl, inr, _≢_}
-use mathlib.Core.List.{List, [], _∷_}
-use Prim.Native.Nat.{ℕ, _<_, _≤_, _+_, _-_}
-use native.Mathlib.Nat.{eq-or-lt-of-le}
-use native.Mathlib.Omega.{arith}
-use package.mir.Syntax.{w64, add, lt, eq, unsigned, field, named}
-use contract.Running.{tablesOf}
-use borrow.Table.Row.{sInt, sBool}
-use borrow.Author.Tests.{ltb-true, ltb-false, eqb-true, eqb-false}
-use borrow.Fn.World.{World}
+use Rattle.walks.proofs.Facts.{_≡_, refl, ap, sym, _∙_, _⊎_, inl, inr, _≢_, List, [], _∷_, ℕ, _<_, _≤_, _+_, _-_, eq-or-lt-of-le, arith, ltb-true, ltb-false, eqb-true, eqb-false}
+use Rattle.walks.proofs.Steps.{w64, add, lt, eq, unsigned, field, named, tablesOf, sInt, sBool, World, _then_, _free_, _with_, returned, last, skipped, left, joined, branches, loops, n64, flag, fresh, over, at, part, lit, puts, does, gone, none, num, calls, shr-arg, a-lent, value-room, Walked, Laid, meets, Cited, cites, world}
 use Rattle.store.specs.declared.Node.{Node}
 use Rattle.store.specs.Nodes.{setAt}
 use Rattle.store.proofs.Node.{the-row}
 use Rattle.store.proofs.Jobs as jobs
 use Rattle.store.proofs.Jobs.{place-of as job}
 use Rattle.store.proofs.Types.{node-type, set-of}
-use Rattle.store.proofs.node_at.Symbol as at-def
-use Rattle.store.proofs.node_at.Met as at-thm
-use Rattle.walks.proofs.Walk.{_then_, _free_, _with_, returned, last, skipped, left, joined, branches, loops, n64, flag, fresh, over, at, part, lit, puts, does, gone, none, num, calls}
-use Rattle.walks.proofs.Slices.{shr-arg, a-lent}
-use Rattle.walks.proofs.Values.{value-room}
-use Rattle.walks.proofs.Meets.{Walked, Laid, closes, Cited, cites}
-use Rattle.store.proofs.place_of.Key.{name}
-use Rattle.store.proofs.place_of.Statement.{statement}
-use Rattle.store.proofs.place_of.Code as code
+use Rattle.store.proofs.node_at as at-fn
+use Rattle.store.proofs.place_of as this
 
 -- no place below i holds the set y
 abbrev None : List Node → ℕ → ℕ → Type 0
@@ -41,10 +25,10 @@ none-more l y i p q k h = by-case (eq-or-lt-of-le (below h))
     by-case (inr b) f = p k b f
 
 module _ (w : World) where
-  node-at : Cited job jobs.node-at w code.env at-def.name
-  node-at = cites job jobs.node-at w code.env at-def.name at-def.routine code.calls-store·node-at (at-thm.met (w .𝓤) (w .H) (w .𝓜) (w .𝓖) (w .𝓡))
+  node-at : Cited job jobs.node-at w this.Code.env at-fn.Symbol.name
+  node-at = cites job jobs.node-at w this.Code.env at-fn.Symbol.name at-fn.Symbol.routine this.Code.calls-store·node-at (at-fn.Met.met (w .𝓤) (w .H) (w .𝓜) (w .𝓖) (w .𝓡))
 
-  abbrev walk : Walked job w code.env code.function
+  abbrev walk : Walked job w this.Code.env this.Code.function
   walk κs qs bs =
       puts 4 (sInt w64) (lit w64 0 tt) fresh refl (λ u. refl) (λ u. tt) then
       joined _
@@ -57,15 +41,13 @@ module _ (w : World) where
       does 6 sBool eq (part 5 (field 0 ∷ []) set-of refl) (at 3 n64 refl) (over sBool) refl (λ u. refl) (λ u. tt) then
       joined _ (branches 6 flag refl (
       puts 0 (sInt w64) (at 4 n64 refl) fresh refl (λ u. refl) (λ u. tt) then
-      gone 2 (over (sInt w64)) free gone 3 (over (sInt w64)) free gone 4 (over (sInt w64)) free gone 5 (value-room node-type) free gone 6 (over sBool) free
-      returned tt) (skipped tt)) (
+      gone 2 (over (sInt w64)) free gone 3 (over (sInt w64)) free gone 4 (over (sInt w64)) free gone 5 (value-room node-type) free gone 6 (over sBool) free returned tt) (skipped tt)) (
       last tt (does 4 (sInt w64) (add unsigned) (at 4 n64 refl) (lit w64 1 tt) (over (sInt w64)) refl (λ u. refl) (λ u. tt)
       with gone 5 (value-room node-type) with gone 6 (over sBool))))))
       (puts 0 (sInt w64) (at 2 n64 refl) fresh refl (λ u. refl) (λ u. tt) then
-      gone 2 (over (sInt w64)) free gone 3 (over (sInt w64)) free gone 4 (over (sInt w64)) free
-      returned tt)
+      gone 2 (over (sInt w64)) free gone 3 (over (sInt w64)) free gone 4 (over (sInt w64)) free returned tt)
 
-  laid : Laid job w code.env code.function walk
+  laid : Laid job w this.Code.env this.Code.function walk
   laid κs qs a good pre bs =
       let l : List Node = a .0 .now in
       let n : ℕ = a .1 .0 in
@@ -89,7 +71,6 @@ module _ (w : World) where
         ),
       )
 
-pub place-of-spec : {M : Type 1} → statement M
-unfolding code.routine tablesOf
-place-of-spec {M} 𝓤 H 𝓜 𝓖 𝓡 =
-    let w : World = record { M = M; 𝓤 = 𝓤; H = H; 𝓜 = 𝓜; 𝓖 = 𝓖; 𝓡 = 𝓡 } in closes job w code.env name code.function (walk w) (laid w) (code.unfolded 𝓤 H 𝓜 𝓡)
+pub place-of-spec : {M : Type 1} → this.Statement.statement M
+unfolding this.Code.routine tablesOf
+place-of-spec 𝓤 H 𝓜 𝓖 𝓡 = meets job this.Code.env this.Key.name this.Code.function walk laid (world 𝓤 H 𝓜 𝓖 𝓡) (this.Code.unfolded 𝓤 H 𝓜 𝓡)

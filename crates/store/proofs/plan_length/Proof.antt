@@ -1,37 +1,21 @@
 -- `store::plan_length` meets its contract: a walk of its MIR, and what the walk asks. The loop keeps how far behind it the place `at` lies.
-use mathlib.Core.Path.{_≡_, refl, ap, sym, subst}
-use mathlib.Core.Logic.{_≢_}
-use mathlib.Core.List.{List, [], _∷_}
-use Prim.Native.Nat.{ℕ, _<_, _+_}
-use native.Mathlib.Omega.{arith}
-use lib.ListN.{length}
-use package.mir.Syntax.{w64, add, ne, cast, unsigned, field, named}
-use contract.Running.{tablesOf}
-use borrow.Table.Row.{sInt, sBool}
-use borrow.Author.Tests.{eqb-true, eqb-false, not-true, not-false}
-use borrow.Fn.World.{World}
+use Rattle.walks.proofs.Facts.{_≡_, refl, ap, sym, subst, _≢_, List, [], _∷_, ℕ, _+_, arith, eqb-true, eqb-false, not-true, not-false}
+use Rattle.walks.proofs.Steps.{w64, add, ne, cast, unsigned, field, named, tablesOf, sInt, sBool, World, _then_, _free_, _with_, returned, last, skipped, left, joined, branches, loops, n64, flag, fresh, over, at, part, lit, puts, does, turns, gone, none, num, calls, shr-arg, a-lent, value-room, Walked, Laid, meets, Cited, cites, world}
 use Rattle.store.specs.declared.Node.{Node}
 use Rattle.store.specs.Nodes.{nodeAt}
 use Rattle.store.proofs.Node.{the-row}
-use Rattle.store.proofs.PathLaws.{Behind, behind-start, behind-there, behind-sooner, behind-more, behind-end}
+use Rattle.store.proofs.PathLaws.{Stepped, stepped, Behind, behind-start, behind-more, behind-end}
 use Rattle.store.proofs.Jobs as jobs
 use Rattle.store.proofs.Jobs.{plan-length as job}
 use Rattle.store.proofs.Types.{node-type, parent-of}
-use Rattle.store.proofs.node_at.Symbol as at-def
-use Rattle.store.proofs.node_at.Met as at-thm
-use Rattle.walks.proofs.Walk.{_then_, _free_, _with_, returned, last, skipped, left, joined, branches, loops, n64, flag, fresh, over, at, part, lit, puts, does, turns, gone, none, num, calls}
-use Rattle.walks.proofs.Slices.{shr-arg, a-lent}
-use Rattle.walks.proofs.Values.{value-room}
-use Rattle.walks.proofs.Meets.{Walked, Laid, closes, Cited, cites}
-use Rattle.store.proofs.plan_length.Key.{name}
-use Rattle.store.proofs.plan_length.Statement.{statement}
-use Rattle.store.proofs.plan_length.Code as code
+use Rattle.store.proofs.node_at as at-fn
+use Rattle.store.proofs.plan_length as this
 
 module _ (w : World) where
-  node-at : Cited job jobs.node-at w code.env at-def.name
-  node-at = cites job jobs.node-at w code.env at-def.name at-def.routine code.calls-store·node-at (at-thm.met (w .𝓤) (w .H) (w .𝓜) (w .𝓖) (w .𝓡))
+  node-at : Cited job jobs.node-at w this.Code.env at-fn.Symbol.name
+  node-at = cites job jobs.node-at w this.Code.env at-fn.Symbol.name at-fn.Symbol.routine this.Code.calls-store·node-at (at-fn.Met.met (w .𝓤) (w .H) (w .𝓜) (w .𝓖) (w .𝓡))
 
-  abbrev walk : Walked job w code.env code.function
+  abbrev walk : Walked job w this.Code.env this.Code.function
   walk κs qs bs =
       puts 3 (sInt w64) (at 2 n64 refl) fresh refl (λ u. refl) (λ u. tt) then
       puts 4 (sInt w64) (lit w64 0 tt) fresh refl (λ u. refl) (λ u. tt) then
@@ -47,10 +31,9 @@ module _ (w : World) where
       last tt (does 4 (sInt w64) (add unsigned) (at 4 n64 refl) (lit w64 1 tt) (over (sInt w64)) refl (λ u. refl) (λ u. tt)
       with gone 5 (value-room node-type) with gone 6 (over sBool)))))
       (puts 0 (sInt w64) (at 4 n64 refl) fresh refl (λ u. refl) (λ u. tt) then
-      gone 2 (over (sInt w64)) free gone 3 (over (sInt w64)) free gone 4 (over (sInt w64)) free
-      returned tt)
+      gone 2 (over (sInt w64)) free gone 3 (over (sInt w64)) free gone 4 (over (sInt w64)) free returned tt)
 
-  laid : Laid job w code.env code.function walk
+  laid : Laid job w this.Code.env this.Code.function walk
   laid κs qs a good pre bs =
       let l : List Node = a .0 .now in
       let k : ℕ = a .1 .0 in (
@@ -62,13 +45,12 @@ module _ (w : World) where
               (
                 (λ more.
                     let away : i ≢ 0 = eqb-false i 0 (not-true _ more) in
-                    let there : i < length l = behind-there inv away in
-                    let sooner : nodeAt l i .parent < i = behind-sooner inv away in (
-                      (λ _. there),
+                    let s : Stepped l i (inv .rest .path) = stepped (inv .rest .follows) away in (
+                      (λ _. s .there),
                       λ q.
                           let e : q .1 .parent ≡ nodeAt l i .parent = ap (λ (m : Node). m .parent) (q .5) in (
-                            record { fits = omega (arith, e, sooner, there, good .0 .0) },
-                            (record { fits = omega (arith, inv .below, away, good .1 .0) }, (q .1 .parent, omega (arith, e, sooner), ((q .1 .parent, n + 1), refl, subst (λ (p : ℕ). Behind l k p (n + 1)) (sym e) (behind-more inv away), refl))),
+                            record { fits = omega (arith, e, s .sooner, s .there, good .0 .0) },
+                            (record { fits = omega (arith, inv .below, away, good .1 .0) }, (q .1 .parent, omega (arith, e, s .sooner), ((q .1 .parent, n + 1), refl, subst (λ (p : ℕ). Behind l k p (n + 1)) (sym e) (behind-more inv away), refl))),
                           ),
                     )),
                 (λ f. ((refl, (tt, tt)), behind-end inv (eqb-true i 0 (not-false _ f)))),
@@ -76,7 +58,6 @@ module _ (w : World) where
             ),
       )
 
-pub plan-length-spec : {M : Type 1} → statement M
-unfolding code.routine tablesOf
-plan-length-spec {M} 𝓤 H 𝓜 𝓖 𝓡 =
-    let w : World = record { M = M; 𝓤 = 𝓤; H = H; 𝓜 = 𝓜; 𝓖 = 𝓖; 𝓡 = 𝓡 } in closes job w code.env name code.function (walk w) (laid w) (code.unfolded 𝓤 H 𝓜 𝓡)
+pub plan-length-spec : {M : Type 1} → this.Statement.statement M
+unfolding this.Code.routine tablesOf
+plan-length-spec 𝓤 H 𝓜 𝓖 𝓡 = meets job this.Code.env this.Key.name this.Code.function walk laid (world 𝓤 H 𝓜 𝓖 𝓡) (this.Code.unfolded 𝓤 H 𝓜 𝓡)

@@ -1,46 +1,27 @@
 -- `store::read_back` meets its contract: a walk of its MIR, and what the walk asks.
-use mathlib.Core.Path.{refl}
-use mathlib.Core.List.{List, [], _∷_}
-use Prim.Native.Nat.{ℕ, _≤_}
-use lib.ListN.{length}
-use package.mir.Syntax.{w64, le, unsigned, field, named, erased, mut}
-use contract.Lifetimes.{Lfts, Shares}
-use contract.Running.{tablesOf}
-use borrow.Table.Row.{Cx, sInt, sBool, sUnit, lease}
-use borrow.Table.Rows.{sc-here}
-use borrow.Rule.Scalar.{After}
-use borrow.Author.Tests.{leb-true, leb-false}
-use borrow.Fn.Function.{Γin}
-use borrow.Fn.World.{World}
+use Rattle.walks.proofs.Facts.{refl, List, [], _∷_, ℕ, _≤_, length, leb-true, leb-false}
+use Rattle.walks.proofs.Steps.{w64, le, unsigned, field, named, erased, mut, Lfts, Shares, tablesOf, Cx, sInt, sBool, sUnit, lease, After, World, here, _$_, _then_, _free_, returned, skipped, joined, branches, begins, ends, forgets, n64, flag, fresh, over, same, at, part, puts, does, gone, none, num, calls, last, _with_, ptr, kept, mut-len, mut-all, owed-len, lends, slices, backs, mut-arg, shr-arg, a-lent, Walked, Laid, meets, Cited, cites, begun, world, u64}
 use Rattle.store.proofs.Node.{the-row}
 use Rattle.store.proofs.PathLaws.{read-fits, read-long}
 use Rattle.store.proofs.Jobs as jobs
 use Rattle.store.proofs.Jobs.{read-back as job}
 use Rattle.store.proofs.Types.{byte}
-use Rattle.store.proofs.plan_length.Symbol as length-def
-use Rattle.store.proofs.plan_length.Met as length-thm
-use Rattle.store.proofs.write_plan.Symbol as write-def
-use Rattle.store.proofs.write_plan.Met as write-thm
-use Rattle.walks.proofs.Walk.{now as here, _$_, _then_, _free_, returned, skipped, joined, branches, begins, ends, forgets, n64, flag, fresh, over, same, at, part, puts, does, gone, none, num, calls, last, _with_}
-use Rattle.walks.proofs.Slices.{ptr, kept, mut-len, mut-all, owed-len, lends, slices, backs, mut-arg, shr-arg, a-lent}
-use Rattle.walks.proofs.Meets.{Walked, Laid, closes, Cited, cites}
-use Rattle.store.proofs.read_back.Key.{name}
-use Rattle.store.proofs.read_back.Statement.{statement}
-use Rattle.store.proofs.read_back.Code as code
+use Rattle.store.proofs.plan_length as length-fn
+use Rattle.store.proofs.write_plan as write-fn
+use Rattle.store.proofs.read_back as this
 
 module _ (w : World) where
-  plan-length : Cited job jobs.plan-length w code.env length-def.name
-  plan-length = cites job jobs.plan-length w code.env length-def.name length-def.routine code.calls-store·plan-length (length-thm.met (w .𝓤) (w .H) (w .𝓜) (w .𝓖) (w .𝓡))
+  plan-length : Cited job jobs.plan-length w this.Code.env length-fn.Symbol.name
+  plan-length = cites job jobs.plan-length w this.Code.env length-fn.Symbol.name length-fn.Symbol.routine this.Code.calls-store·plan-length (length-fn.Met.met (w .𝓤) (w .H) (w .𝓜) (w .𝓖) (w .𝓡))
 
-  write-plan : Cited job jobs.write-plan w code.env write-def.name
-  write-plan = cites job jobs.write-plan w code.env write-def.name write-def.routine code.calls-store·write-plan (write-thm.met (w .𝓤) (w .H) (w .𝓜) (w .𝓖) (w .𝓡))
+  write-plan : Cited job jobs.write-plan w this.Code.env write-fn.Symbol.name
+  write-plan = cites job jobs.write-plan w this.Code.env write-fn.Symbol.name write-fn.Symbol.routine this.Code.calls-store·write-plan (write-fn.Met.met (w .𝓤) (w .H) (w .𝓜) (w .𝓖) (w .𝓡))
 
   -- the context with the length
-  module _ (κs : Lfts 2) (qs : Shares 2) where
-    abbrev Has-n : Cx
-    Has-n = After (Γin 2 (job .ps) (job .r) (job .xs) 1 κs qs) 4 (sc-here (sInt w64))
+  abbrev Has-n : (κs : Lfts 2) (qs : Shares 2) → Cx
+  Has-n κs qs = After (begun job κs qs) 4 u64
 
-  abbrev walk : Walked job w code.env code.function
+  abbrev walk : Walked job w this.Code.env this.Code.function
   walk κs qs bs =
       calls (plan-length bs) (0 ∷ []) 4 (shr-arg the-row 0 tt 1 (a-lent the-row (named 0) 0) refl (num 2 n64 refl none)) fresh (tt, tt) refl then here (Has-n κs qs) $
       puts 5 (sInt w64) (part 3 (field 1 ∷ []) (mut-len byte (named 1) 1) refl) fresh refl (λ u. refl) (λ u. tt) then
@@ -49,17 +30,15 @@ module _ (w : World) where
       joined (Has-n κs qs) (branches 6 flag refl (
       gone 6 (over sBool) free here (Has-n κs qs) $
       -- write_plan(store, at, plan, total)
-      begins 2 _ free
-      lends byte 3 8 1 2 (named 1) same fresh refl tt refl refl then
+      begins 2 _ free lends byte 3 8 1 2 (named 1) same fresh refl tt refl refl then
       slices byte 8 9 2 (ptr byte erased mut) same fresh (part 3 (field 1 ∷ []) (owed-len byte (named 1) 1 2 (lease (κs .1 .0) (qs .1 .0))) refl) refl refl then
       last tt (calls (write-plan bs) (0 ∷ 2 ∷ []) 7 (shr-arg the-row 0 tt 1 (a-lent the-row (named 0) 0) refl (num 2 n64 refl (mut-arg byte 1 tt 9 same (mut-all byte erased 2) refl (num 4 n64 refl none)))) fresh (tt, (tt, tt)) refl
       with gone 7 (over sUnit) with ends 2 refl with backs byte 9 3 1 2 (named 1) (lease (κs .1 .0) (qs .1 .0)) same same refl refl with forgets 2 refl))
       (gone 6 (over sBool) free skipped tt)) (
       puts 0 (sInt w64) (at 4 n64 refl) fresh refl (λ u. refl) (λ u. tt) then
-      gone 2 (over (sInt w64)) free gone 4 (over (sInt w64)) free
-      returned tt)
+      gone 2 (over (sInt w64)) free gone 4 (over (sInt w64)) free returned tt)
 
-  laid : Laid job w code.env code.function walk
+  laid : Laid job w this.Code.env this.Code.function walk
   laid κs qs a good pre bs =
       let before : List ℕ = a .1 .1 .0 .now in (
         (λ _. pre),
@@ -72,7 +51,6 @@ module _ (w : World) where
         ),
       )
 
-pub read-back-spec : {M : Type 1} → statement M
-unfolding code.routine tablesOf
-read-back-spec {M} 𝓤 H 𝓜 𝓖 𝓡 =
-    let w : World = record { M = M; 𝓤 = 𝓤; H = H; 𝓜 = 𝓜; 𝓖 = 𝓖; 𝓡 = 𝓡 } in closes job w code.env name code.function (walk w) (laid w) (code.unfolded 𝓤 H 𝓜 𝓡)
+pub read-back-spec : {M : Type 1} → this.Statement.statement M
+unfolding this.Code.routine tablesOf
+read-back-spec 𝓤 H 𝓜 𝓖 𝓡 = meets job this.Code.env this.Key.name this.Code.function walk laid (world 𝓤 H 𝓜 𝓖 𝓡) (this.Code.unfolded 𝓤 H 𝓜 𝓡)

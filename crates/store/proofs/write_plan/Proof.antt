@@ -1,43 +1,16 @@
 -- `store::write_plan` meets its contract: a walk of its MIR, and what the walk asks. The loop keeps what is written and what is left to write.
-use mathlib.Core.Path.{_≡_, refl, sym, subst}
-use mathlib.Core.Logic.{_≢_}
-use mathlib.Core.List.{List, [], _∷_}
-use Prim.Native.Nat.{ℕ, _<_, _≤_, _-_}
-use native.Mathlib.Omega.{arith}
-use lib.ListN.{length}
-use package.mir.Syntax.{w64, sub, ne, cast, unsigned, field, named, erased, mut}
-use contract.Lifetimes.{Lfts, Shares}
-use contract.Running.{tablesOf}
-use borrow.Table.Row.{Cx, Row, sInt, sBool, sUnit, lease}
-use borrow.Table.Rows.{sc-here}
-use borrow.Rule.Scalar.{After}
-use borrow.Rule.Slice.Mut.{setVals}
-use borrow.Author.Tests.{eqb-true, eqb-false, not-true, not-false}
-use borrow.Fn.Function.{Γin}
-use borrow.Fn.World.{World}
+use Rattle.walks.proofs.Facts.{_≡_, refl, sym, subst, _≢_, List, [], _∷_, ℕ, _<_, _≤_, _-_, arith, eqb-true, eqb-false, not-true, not-false}
+use Rattle.walks.proofs.Steps.{w64, sub, ne, cast, unsigned, field, named, erased, mut, Lfts, Shares, tablesOf, Cx, sInt, sBool, sUnit, lease, After, setVals, World, Callee, here, _$_, _then_, _free_, _with_, returned, last, skipped, left, joined, branches, loops, begins, ends, forgets, n64, flag, fresh, over, same, at, part, lit, unit, puts, does, turns, gone, none, num, num-of, calls, ptr, kept, mut-all, owed-len, lends, slices, backs, mut-arg, shr-arg, a-lent, is, value-room, site, Walked, Laid, meets, Cited, cites, begun, world, u64}
 use Rattle.store.specs.declared.Node.{Node}
 use Rattle.store.specs.Nodes.{nodeAt}
 use Rattle.store.proofs.Node.{the-row}
-use Rattle.store.proofs.PathLaws.{Writing, writing-start, writing-there, writing-sooner, writing-room, writing-turn, writing-long, writing-end}
+use Rattle.store.proofs.PathLaws.{Stepped, stepped, Writing, writing-start, writing-away, writing-room, writing-turn, writing-long, writing-end}
 use Rattle.store.proofs.Jobs as jobs
 use Rattle.store.proofs.Jobs.{write-plan as job}
 use Rattle.store.proofs.Types.{byte, node-type, parent-of, command-of}
-use Rattle.store.proofs.node_at.Symbol as at-def
-use Rattle.store.proofs.node_at.Met as at-thm
-use Rattle.store.proofs.put_command.Symbol as put-def
-use Rattle.store.proofs.put_command.Kinds as put-kinds
-use Rattle.store.proofs.put_command.Reads as put-reads
-use Rattle.store.proofs.put_command.Met as put-thm
-use Rattle.walks.proofs.Walk.{Callee, now as here, _$_, _then_, _free_, _with_, returned, last, skipped, left, joined, branches, loops, begins, ends, forgets, n64, flag, fresh, over, same, at, part, lit, unit, puts, does, turns, gone, none, num, num-of, calls}
-use Rattle.walks.proofs.Slices.{ptr, kept, mut-all, owed-len, lends, slices, backs, mut-arg, shr-arg, a-lent}
-use Rattle.walks.proofs.Values.{is, value-room}
-use Rattle.walks.proofs.Meets.{site, Walked, Laid, closes, Cited, cites}
-use Rattle.store.proofs.write_plan.Key.{name}
-use Rattle.store.proofs.write_plan.Statement.{statement}
-use Rattle.store.proofs.write_plan.Code as code
-
-abbrev u64 : Row
-u64 = sc-here (sInt w64)
+use Rattle.store.proofs.node_at as at-fn
+use Rattle.store.proofs.put_command as put-fn
+use Rattle.store.proofs.write_plan as this
 
 some : (n : ℕ) → n ≢ 0 → 1 ≤ n
 some n p = omega arith
@@ -49,21 +22,21 @@ parent-below : (l : List Node) (i : ℕ) (m : Node) → m ≡ nodeAt l i → nod
 parent-below l i m e h = subst (λ (n : Node). n .parent < i) (sym e) h
 
 module _ (w : World) where
-  node-at : Cited job jobs.node-at w code.env at-def.name
-  node-at = cites job jobs.node-at w code.env at-def.name at-def.routine code.calls-store·node-at (at-thm.met (w .𝓤) (w .H) (w .𝓜) (w .𝓖) (w .𝓡))
+  node-at : Cited job jobs.node-at w this.Code.env at-fn.Symbol.name
+  node-at = cites job jobs.node-at w this.Code.env at-fn.Symbol.name at-fn.Symbol.routine this.Code.calls-store·node-at (at-fn.Met.met (w .𝓤) (w .H) (w .𝓜) (w .𝓖) (w .𝓡))
 
-  put-command : (bs : List ℕ) → Callee (site job w code.env bs) 1 put-kinds.ps put-kinds.r put-reads.Asked put-reads.Learnt put-def.name
-  put-command bs = record { known = put-reads.known w code.env put-def.name put-def.routine code.calls-store·put-command (put-thm.met (w .𝓤) (w .H) (w .𝓜) (w .𝓖) (w .𝓡)) }
+  put-command : (bs : List ℕ) → Callee (site job w this.Code.env bs) 1 put-fn.Kinds.ps put-fn.Kinds.r put-fn.Reads.Asked put-fn.Reads.Learnt put-fn.Symbol.name
+  put-command bs = record { known = put-fn.Reads.known w this.Code.env put-fn.Symbol.name put-fn.Symbol.routine this.Code.calls-store·put-command (put-fn.Met.met (w .𝓤) (w .H) (w .𝓜) (w .𝓖) (w .𝓡)) }
 
   -- the contexts: at the loop's head, and with the record
   module _ (κs : Lfts 2) (qs : Shares 2) where
     abbrev Hd : Cx
-    Hd = After (After (Γin 2 (job .ps) (job .r) (job .xs) 1 κs qs) 5 u64) 6 u64
+    Hd = After (After (begun job κs qs) 5 u64) 6 u64
 
     abbrev Has-n : Cx
     Has-n = After Hd 7 (is node-type)
 
-  abbrev walk : Walked job w code.env code.function
+  abbrev walk : Walked job w this.Code.env this.Code.function
   walk κs qs bs =
       puts 5 (sInt w64) (at 2 n64 refl) fresh refl (λ u. refl) (λ u. tt) then
       puts 6 (sInt w64) (at 4 n64 refl) fresh refl (λ u. refl) (λ u. tt) then
@@ -78,18 +51,16 @@ module _ (w : World) where
       does 6 (sInt w64) (sub unsigned) (at 6 n64 refl) (lit w64 1 tt) (over (sInt w64)) refl (λ u. refl) (λ u. tt) then
       here (Has-n κs qs) $
       -- put_command(&mut *plan, left, n.command)
-      begins 2 _ free
-      lends byte 3 10 1 2 (named 1) same fresh refl tt refl refl then
+      begins 2 _ free lends byte 3 10 1 2 (named 1) same fresh refl tt refl refl then
       slices byte 10 11 2 (ptr byte erased mut) same fresh (part 3 (field 1 ∷ []) (owed-len byte (named 1) 1 2 (lease (κs .1 .0) (qs .1 .0))) refl) refl refl then
       calls (put-command bs) (2 ∷ []) 9 (mut-arg byte 0 tt 11 same (mut-all byte erased 2) refl (num 6 n64 refl (num-of 7 (field 2 ∷ []) command-of refl none))) fresh (tt, tt) refl then
       gone 9 (over sUnit) free ends 2 refl free backs byte 11 3 1 2 (named 1) (lease (κs .1 .0) (qs .1 .0)) same same refl refl free forgets 2 refl free here (Has-n κs qs) $
       last tt (turns 5 (sInt w64) (cast unsigned unsigned w64) (part 7 (field 1 ∷ []) parent-of refl) (over (sInt w64)) refl (λ u. refl) (λ u. tt)
       with gone 7 (value-room node-type)))))
       (puts 0 sUnit unit fresh refl (λ u. refl) (λ u. tt) then
-      gone 2 (over (sInt w64)) free gone 4 (over (sInt w64)) free gone 5 (over (sInt w64)) free gone 6 (over (sInt w64)) free
-      returned tt)
+      gone 2 (over (sInt w64)) free gone 4 (over (sInt w64)) free gone 5 (over (sInt w64)) free gone 6 (over (sInt w64)) free returned tt)
 
-  laid : Laid job w code.env code.function walk
+  laid : Laid job w this.Code.env this.Code.function walk
   laid κs qs a good pre bs =
       let l : List Node = a .0 .now in
       let k : ℕ = a .1 .0 in
@@ -103,16 +74,15 @@ module _ (w : World) where
               (
                 (λ more.
                     let away : n ≢ 0 = eqb-false n 0 (not-true _ more) in
-                    let there : i < length l = writing-there inv away in
-                    let sooner : nodeAt l i .parent < i = writing-sooner inv away in (
-                      (λ _. there),
+                    let s : Stepped l i (inv .rest .path) = stepped (inv .rest .follows) (writing-away inv away) in (
+                      (λ _. s .there),
                       λ q. (
                         some n away,
                         λ γ. (
                           refl,
                           (
                             (λ _. writing-room inv away),
-                            λ p. (refl, λ e. (record { fits = omega (arith, parent-below l i (q .1) (q .5) sooner, there, good .0 .0) }, (n - 1, less n away, ((p .2 .0, (q .1 .parent, n - 1)), refl, writing-turn inv away (q .5) (p .5), refl)))),
+                            λ p. (refl, λ e. (record { fits = omega (arith, parent-below l i (q .1) (q .5) (s .sooner), s .there, good .0 .0) }, (n - 1, less n away, ((p .2 .0, (q .1 .parent, n - 1)), refl, writing-turn inv away (q .5) (p .5), refl)))),
                           ),
                         ),
                       ),
@@ -122,7 +92,6 @@ module _ (w : World) where
             ),
       )
 
-pub write-plan-spec : {M : Type 1} → statement M
-unfolding code.routine tablesOf
-write-plan-spec {M} 𝓤 H 𝓜 𝓖 𝓡 =
-    let w : World = record { M = M; 𝓤 = 𝓤; H = H; 𝓜 = 𝓜; 𝓖 = 𝓖; 𝓡 = 𝓡 } in closes job w code.env name code.function (walk w) (laid w) (code.unfolded 𝓤 H 𝓜 𝓡)
+pub write-plan-spec : {M : Type 1} → this.Statement.statement M
+unfolding this.Code.routine tablesOf
+write-plan-spec 𝓤 H 𝓜 𝓖 𝓡 = meets job this.Code.env this.Key.name this.Code.function walk laid (world 𝓤 H 𝓜 𝓖 𝓡) (this.Code.unfolded 𝓤 H 𝓜 𝓡)
