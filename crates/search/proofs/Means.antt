@@ -7,6 +7,7 @@ use Prim.Native.Nat.{ℕ, _-_, _^_, _≤_, _<_}
 use native.Mathlib.Omega.{arith}
 use lib.ListN.{length, take, drop}
 use lib.Seq.{take-at}
+use Rattle.meaning.proofs.Tests.{clash}
 use Rattle.meaning.specs.Domain.{Domain}
 use Rattle.meaning.specs.Runs.{Good}
 use Rattle.meaning.specs.Answers as meaning
@@ -38,9 +39,9 @@ written-whole {g = g} {c} {b} {r} u e = go (answered g (u .listing) c b (u .answ
   where
     go : Answered g (u .listing) c b r → WrittenWhole b r
     go (answers.plan a h q f) = subst (WrittenWhole b) (sym f) (record { as-long = refl; fits = q })
-    go (answers.too-long a h q f) = absurd (let z : _≡_ {A = ℕ} 0 1 = cc in omega arith)
-    go (answers.no-plan m h f) = absurd (let z : _≡_ {A = ℕ} 0 1 = cc in omega arith)
-    go (answers.no-room m h f) = absurd (let z : _≡_ {A = ℕ} 0 1 = cc in omega arith)
+    go (answers.too-long a h q f) = absurd (clash (cc))
+    go (answers.no-plan m h f) = absurd (clash (cc))
+    go (answers.no-room m h f) = absurd (clash (cc))
 
 -- ---- the engine
 

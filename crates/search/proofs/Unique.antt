@@ -5,6 +5,7 @@ use mathlib.Core.List.{List, [], _∷_, _++_, map, head-eq-of-cons-eq, tail-eq-o
 use Prim.Native.Nat.{ℕ}
 use native.Mathlib.Omega.{arith}
 use lib.ListN.{length, take, drop, take-append-drop}
+use Rattle.meaning.proofs.Tests.{clash}
 use Rattle.meaning.specs.Domain.{Domain}
 use Rattle.meaning.specs.Listing as listing
 use Rattle.meaning.specs.Answers.{Searched, room}
@@ -27,23 +28,23 @@ use Rattle.search.proofs.SheetLaws.{sheet-ready}
 -- ---- the values tell two of each kind apart
 
 pub plan-not-refused : {n : ℕ} → ¬ (Plan ≡ Refused n)
-plan-not-refused e = let z : _≡_ {A = ℕ} 0 1 = cc in omega arith
+plan-not-refused e = clash (cc)
 
 pub plan-not-none : ¬ (Plan ≡ NoPlan)
-plan-not-none e = let z : _≡_ {A = ℕ} 0 1 = cc in omega arith
+plan-not-none e = clash (cc)
 
 pub none-not-refused : {n : ℕ} → ¬ (NoPlan ≡ Refused n)
-none-not-refused e = let z : _≡_ {A = ℕ} 0 1 = cc in omega arith
+none-not-refused e = clash (cc)
 
 pub verdict-inj : (v w : Verdict) → verdictOf v ≡ verdictOf w → v ≡ w
 verdict-inj Plan Plan e = refl
-verdict-inj Plan NoPlan e = absurd (let z : _≡_ {A = ℕ} 0 1 = cc in omega arith)
-verdict-inj Plan (Refused m) e = absurd (let z : _≡_ {A = ℕ} 0 1 = cc in omega arith)
-verdict-inj NoPlan Plan e = absurd (let z : _≡_ {A = ℕ} 0 1 = cc in omega arith)
+verdict-inj Plan NoPlan e = absurd (clash (cc))
+verdict-inj Plan (Refused m) e = absurd (clash (cc))
+verdict-inj NoPlan Plan e = absurd (clash (cc))
 verdict-inj NoPlan NoPlan e = refl
-verdict-inj NoPlan (Refused m) e = absurd (let z : _≡_ {A = ℕ} 0 1 = cc in omega arith)
-verdict-inj (Refused n) Plan e = absurd (let z : _≡_ {A = ℕ} 0 1 = cc in omega arith)
-verdict-inj (Refused n) NoPlan e = absurd (let z : _≡_ {A = ℕ} 0 1 = cc in omega arith)
+verdict-inj NoPlan (Refused m) e = absurd (clash (cc))
+verdict-inj (Refused n) Plan e = absurd (clash (cc))
+verdict-inj (Refused n) NoPlan e = absurd (clash (cc))
 verdict-inj (Refused n) (Refused m) e = ap Refused (refused-inj e)
 
 pub answer-inj : (a b : Answer) (p q : List ℕ) → searchedOf a p ≡ searchedOf b q → a ≡ b

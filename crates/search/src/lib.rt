@@ -6,12 +6,12 @@ use explore::explore;
 use sets::Set;
 use sheet::Head;
 use sheet::Reading;
+use sheet::head_of;
 use sheet::read;
 use store::Node;
 use store::read_back;
 ghost use mathlib.Core.Path.{_≡_};
 ghost use Rattle.sets.specs.Words.{setOf};
-ghost use Rattle.sheet.specs.Answers.{shownHead};
 ghost use Rattle.follow.specs.Following.{domainBy};
 ghost use Rattle.explore.specs.Ready.{Ready};
 ghost use Rattle.search.specs.Done.{answer, SearchDone, SheetSearched, SearchedHere};
@@ -94,7 +94,7 @@ pub fn search_from(
     finish(&*store, t, plan)
 }
 
-// A reading taken apart: whether it is a refusal, its answer, and the head.
+// A reading taken apart: whether it is a refusal, and its answer.
 fn is_refused(r: Reading) -> bool
     ensures { λ b. ⌜ b ≡ isRefused r ⌝ }
 {
@@ -110,20 +110,6 @@ fn refused(r: Reading) -> Answer
     match r {
         Reading::Accepted(h) => answered(Verdict::Refused(0), 0, 0, 0),
         Reading::Refused(f) => answered(Verdict::Refused(f.number), f.place, 0, 0),
-    }
-}
-
-fn head_of(r: Reading) -> Head
-    ensures { λ h. ⌜ h ≡ shownHead r ⌝ }
-{
-    match r {
-        Reading::Accepted(h) => h,
-        Reading::Refused(f) => Head {
-            states: 0,
-            commands: 0,
-            initial: 0,
-            goal: 0,
-        },
     }
 }
 

@@ -27,7 +27,7 @@ use Rattle.walks.proofs.Values.{tyOf, is, holds, value-room, val-arg}
 use Rattle.walks.proofs.Slices.{ptr, kept, mut-all, owed-len, lends, slices, backs, mut-arg, shr-arg, a-lent}
 use Rattle.walks.proofs.Meets.{Job, site, Walked, Laid, closes, Cited, cites}
 use Rattle.plugin.specs.Boundary.{SearchedInto}
-use Rattle.plugin.proofs.Arrays.{to, lends-ref, backs-ref, ref-all, ref-arg}
+use Rattle.walks.proofs.Arrays.{to, lends-ref, backs-ref, ref-all, ref-arg}
 use Rattle.plugin.proofs.put_search.Symbol as put-def
 use Rattle.plugin.proofs.put_search.Kinds as put-kinds
 use Rattle.plugin.proofs.put_search.Reads as put-reads

@@ -2,6 +2,7 @@
 use Rattle.walks.proofs.Facts.{_≡_, refl, sym, _∙_, false, List, [], _∷_, ℕ}
 use Rattle.walks.proofs.Steps.{field, named, erased, mut, Lfts, Shares, tablesOf, Cx, sBool, lease, sc-here, After, World, Callee, here, _$_, _then_, _free_, returned, skipped, joined, branches, begins, ends, forgets, flag, fresh, over, same, part, gone, none, num-of, calls, is, holds, value-room, val-arg, ptr, kept, mut-all, owed-len, lends, slices, backs, mut-arg, shr-arg, a-lent, site, Walked, Laid, meets, Cited, cites, begun, world}
 use Rattle.sheet.proofs.read as read-fn
+use Rattle.sheet.proofs.head_of as head-fn
 use Rattle.store.proofs.Types.{byte, node-type}
 use Rattle.explore.proofs.Types.{head-type}
 use Rattle.search.specs.Endings.{isRefused}
@@ -12,7 +13,6 @@ use Rattle.search.proofs.Jobs.{search as job}
 use Rattle.search.proofs.search_from as from-fn
 use Rattle.search.proofs.is_refused as test-fn
 use Rattle.search.proofs.refused as refused-fn
-use Rattle.search.proofs.head_of as head-fn
 use Rattle.search.proofs.search as this
 
 module _ (w : World) where
@@ -26,7 +26,7 @@ module _ (w : World) where
   refused bs = record { known = refused-fn.Reads.known w this.Code.env refused-fn.Symbol.name refused-fn.Symbol.routine this.Code.calls-search·refused (refused-fn.Met.met (w .𝓤) (w .H) (w .𝓜) (w .𝓖) (w .𝓡)) }
 
   head-of : (bs : List ℕ) → Callee (site job w this.Code.env bs) 0 head-fn.Kinds.ps head-fn.Kinds.r head-fn.Reads.Asked head-fn.Reads.Learnt head-fn.Symbol.name
-  head-of bs = record { known = head-fn.Reads.known w this.Code.env head-fn.Symbol.name head-fn.Symbol.routine this.Code.calls-search·head-of (head-fn.Met.met (w .𝓤) (w .H) (w .𝓜) (w .𝓖) (w .𝓡)) }
+  head-of bs = record { known = head-fn.Reads.known w this.Code.env head-fn.Symbol.name head-fn.Symbol.routine this.Code.calls-sheet·head-of (head-fn.Met.met (w .𝓤) (w .H) (w .𝓜) (w .𝓖) (w .𝓡)) }
 
   search-from : Cited job jobs.search-from w this.Code.env from-fn.Symbol.name
   search-from = cites job jobs.search-from w this.Code.env from-fn.Symbol.name from-fn.Symbol.routine this.Code.calls-search·search-from (from-fn.Met.met (w .𝓤) (w .H) (w .𝓜) (w .𝓖) (w .𝓡))

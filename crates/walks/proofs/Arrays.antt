@@ -1,9 +1,9 @@
--- The steps of a walk on a `&mut` to an array: it is lent again for a call, comes back, and is passed on. What it refers to is any type R.
+-- The steps of `Walk.antt` on a `&mut` to an array: it is lent again for a call, comes back, and is passed on. What it refers to is any type R.
 -- The idea: each is the logic's own rule for a `&mut`, with the rows and the types filled in.
 use mathlib.Core.Path.{_≡_}
 use mathlib.Core.List.{List, [], _∷_}
 use Prim.Native.Nat.{ℕ}
-use package.mir.Syntax.{Ty, Lifetime, tyRef, erased, mut, deref, assign, place, addrOf}
+use mir.Syntax.{Ty, Lifetime, tyRef, erased, mut, deref, assign, place, addrOf}
 use prog.Wp.{spotOf}
 use contract.Lifetimes.{Within}
 use denote.RattleType.{RattleType}
