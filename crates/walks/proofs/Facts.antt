@@ -9,3 +9,4 @@ pub use native.Mathlib.Omega.{arith}
 pub use lib.Dec.{lit<}
 pub use lib.ListN.{length, length-set}
 pub use borrow.Author.Tests.{ltb-true, ltb-false, eqb-true, eqb-false, not-true, not-false, leb-true, leb-false}
+pub use lib.Seq.{length-take-le}

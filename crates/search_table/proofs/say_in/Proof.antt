@@ -1,55 +1,29 @@
 -- `search_table::say_in` is safe and ends: the store is a local array, lent to `say_room` beside the plan buffer.
-use mathlib.Core.Path.{refl}
-use mathlib.Core.List.{[], _∷_}
-use Prim.Native.Nat.{_≤_}
-use lib.Dec.{lit<}
-use package.mir.Syntax.{tyArray, tyUnit, w64, w32, w8, field, named, erased, mut}
-use denote.Slice.{sliceTy}
-use contract.Running.{tablesOf}
-use borrow.Table.Row.{sInt, sUnit, lease}
-use borrow.Rule.Scalar.{After}
-use borrow.Rule.Array.Rows.{arrF}
-use borrow.Fn.Function.{Γin}
-use borrow.Fn.Kinds.{pNum, rUnit}
-use borrow.Fn.World.{World}
-use borrow.Kind.MutSlice.{pMutS}
-use borrow.Kind.ShrSlice.{pShrS}
+use Rattle.walks.proofs.Facts.{refl, [], _∷_, _≤_, lit<}
+use Rattle.walks.proofs.Steps.{job-of, tyArray, tyUnit, w64, w32, w8, field, named, erased, mut, sliceTy, tablesOf, sInt, sUnit, lease, After, arrF, begun, pNum, rUnit, World, pMutS, pShrS, here, _$_, _then_, _free_, _with_, returned, begins, ends, forgets, n64, fresh, over, same, part, lit, unit, puts, gone, none, num, calls, tyOf, holds, value-room, makes-struct, _&_, nil, ptr, kept, mut-all, owed-len, lends, slices, backs, mut-arg, shr-arg, a-lent, arr-ptr, arr-room, fills, as-array, lends-array, backs-array, Job, Walked, Laid, meets, Cited, cites, world}
 use Rattle.store.specs.Nodes.{node}
 use Rattle.store.proofs.Node.{the-type}
 use Rattle.store.proofs.Node.Laws.{the-laws, the-plain}
 use Rattle.store.proofs.Types.{byte, node-type, node-wt}
-use Rattle.walks.proofs.Walk.{now as here, _$_, _then_, _free_, _with_, returned, begins, ends, forgets, n64, fresh, over, same, part, lit, unit, puts, gone, none, num, calls}
-use Rattle.walks.proofs.Values.{tyOf, holds, value-room, makes-struct, _&_, nil}
-use Rattle.walks.proofs.Slices.{ptr, kept, mut-all, owed-len, lends, slices, backs, mut-arg, shr-arg, a-lent}
-use Rattle.walks.proofs.Elements.{arr-ptr, arr-room, fills, as-array, lends-array, backs-array}
-use Rattle.walks.proofs.Meets.{Job, Walked, Laid, closes, Cited, cites}
 use Rattle.search_table.proofs.Jobs as jobs
-use Rattle.search_table.proofs.say_room.Symbol as room-def
-use Rattle.search_table.proofs.say_room.Met as room-thm
-use Rattle.search_table.proofs.say_in.Key.{name}
-use Rattle.search_table.proofs.say_in.Statement.{statement}
-use Rattle.search_table.proofs.say_in.Code as code
+use Rattle.search_table.proofs.say_room as room-fn
+use Rattle.search_table.proofs.say_in as this
 
 abbrev job : Job
-job = record {
-  n = 3;
-  ps = pShrS byte 0 tt ∷ pShrS byte 1 tt ∷ pMutS byte 2 tt ∷ pNum w64 ∷ [];
-  r = rUnit;
-  xs = tyArray (tyOf node-type) 6 ∷ tyOf node-type ∷ tyUnit ∷ ptr byte erased mut ∷ sliceTy (ptr byte erased mut) ∷ arr-ptr node-type 6 ∷ sliceTy (ptr (node-type .R) erased mut) ∷ [];
-  m = 2;
-  Pre = λ κs a. (a .1 .1 .1 .0 ≤ 6) ∷ [];
-  Post = λ κs a z e. [];
-}
+job = job-of 3 2 (pShrS byte 0 tt ∷ pShrS byte 1 tt ∷ pMutS byte 2 tt ∷ pNum w64 ∷ []) rUnit
+    (tyArray (tyOf node-type) 6 ∷ tyOf node-type ∷ tyUnit ∷ ptr byte erased mut ∷ sliceTy (ptr byte erased mut) ∷ arr-ptr node-type 6 ∷ sliceTy (ptr (node-type .R) erased mut) ∷ [])
+    (λ κs a. (a .1 .1 .1 .0 ≤ 6) ∷ [])
+    (λ κs a z e. [])
 
 module _ (w : World) where
-  say-room : Cited job jobs.say-room w code.env room-def.name
-  say-room = cites job jobs.say-room w code.env room-def.name room-def.routine code.calls-search-table·say-room (room-thm.met (w .𝓤) (w .H) (w .𝓜) (w .𝓖) (w .𝓡))
+  say-room : Cited job jobs.say-room w this.Code.env room-fn.Symbol.name
+  say-room = cites job jobs.say-room w this.Code.env room-fn.Symbol.name room-fn.Symbol.routine this.Code.calls-search-table·say-room (room-fn.Met.met (w .𝓤) (w .H) (w .𝓜) (w .𝓖) (w .𝓡))
 
-  abbrev walk : Walked job w code.env code.function
+  abbrev walk : Walked job w this.Code.env this.Code.function
   walk κs qs bs =
       makes-struct the-type the-laws the-plain node-wt 6 (lit w64 7 tt & lit w32 7 tt & lit w8 7 tt & nil) (λ m. node 7 7 7) fresh refl (λ m. refl) then
       fills node-type 5 6 6 (holds node-type) fresh refl refl with as-array node-type 5 6 same then
-      gone 6 (value-room node-type) free here (After (Γin 3 (job .ps) (job .r) (job .xs) 2 κs qs) 5 (arrF (node-type .R) 6 0)) $
+      gone 6 (value-room node-type) free here (After (begun job κs qs) 5 (arrF (node-type .R) 6 0)) $
       begins 3 _ free lends byte 3 8 2 3 (named 2) same fresh refl tt refl refl then
       slices byte 8 9 3 (ptr byte erased mut) same fresh (part 3 (field 1 ∷ []) (owed-len byte (named 2) 2 3 (lease (κs .1 .1 .0) (qs .1 .1 .0))) refl) refl refl then
       begins 4 _ free lends-array node-type 5 10 6 4 same fresh refl (lit< tt, lit< tt) then
@@ -63,10 +37,9 @@ module _ (w : World) where
       gone 4 (over (sInt w64)) free
       returned tt
 
-  laid : Laid job w code.env code.function walk
+  laid : Laid job w this.Code.env this.Code.function walk
   laid κs qs a good pre bs = λ γ. (refl, λ γ₂. (refl, ((λ _. pre), λ p. (refl, λ f. (refl, λ e. ((refl, (refl, (kept (a .1 .1 .0) e, (tt, tt)))), tt))))))
 
-pub say-in-spec : {M : Type 1} → statement M
-unfolding code.routine tablesOf
-say-in-spec {M} 𝓤 H 𝓜 𝓖 𝓡 =
-    let w : World = record { M = M; 𝓤 = 𝓤; H = H; 𝓜 = 𝓜; 𝓖 = 𝓖; 𝓡 = 𝓡 } in closes job w code.env name code.function (walk w) (laid w) (code.unfolded 𝓤 H 𝓜 𝓡)
+pub say-in-spec : {M : Type 1} → this.Statement.statement M
+unfolding this.Code.routine tablesOf
+say-in-spec 𝓤 H 𝓜 𝓖 𝓡 = meets job this.Code.env this.Key.name this.Code.function walk laid (world 𝓤 H 𝓜 𝓖 𝓡) (this.Code.unfolded 𝓤 H 𝓜 𝓡)

@@ -1,56 +1,35 @@
 -- `search_table::say_room` is safe and ends: a walk of its MIR, and what the walk asks. The first places are lent, and the rest stays.
-use mathlib.Core.Path.{refl, sym, ap}
-use mathlib.Core.List.{List, [], _∷_}
-use Prim.Native.Nat.{ℕ}
-use lib.Seq.{length-take-le}
-use package.mir.Syntax.{w64, field, named, erased, mut, imm}
-use package.mir.Val.{vint}
-use contract.Lifetimes.{Lfts, Shares}
-use contract.Running.{tablesOf}
-use borrow.Table.Row.{Cx, sInt, sUnit, lease}
-use borrow.Rule.Scalar.{After}
-use borrow.Fn.Function.{Γin}
-use borrow.Fn.World.{World}
+use Rattle.walks.proofs.Facts.{refl, sym, ap, List, [], _∷_, ℕ, length-take-le}
+use Rattle.walks.proofs.Steps.{w64, field, named, erased, mut, imm, vint, Lfts, Shares, tablesOf, Cx, sInt, sUnit, lease, After, begun, World, Callee, here, _$_, _then_, _free_, returned, begins, ends, forgets, n64, fresh, over, same, at, part, unit, puts, gone, none, calls, is, holds, value-room, val-arg, ptr, kept, mut-all, owed-len, lends, slices, backs, mut-arg, shr-arg, a-lent, shares, shared-len, slices-shared, slice-room, unshares, site, Walked, Laid, meets, Cited, cites, world}
 use Rattle.store.proofs.Types.{byte, node-type}
 use Rattle.search.proofs.Types.{answer-type}
 use Rattle.search.proofs.Jobs as search-jobs
-use Rattle.search.proofs.search.Symbol as search-def
-use Rattle.search.proofs.search.Met as search-thm
-use Rattle.walks.proofs.Walk.{Callee, now as here, _$_, _then_, _free_, returned, begins, ends, forgets, n64, fresh, over, same, at, part, unit, puts, gone, none, calls}
-use Rattle.walks.proofs.Values.{is, holds, value-room, val-arg}
-use Rattle.walks.proofs.Slices.{ptr, kept, mut-all, owed-len, lends, slices, backs, mut-arg, shr-arg, a-lent, shares, shared-len, slices-shared, slice-room, unshares}
-use Rattle.walks.proofs.Meets.{site, Walked, Laid, closes, Cited, cites}
 use Rattle.search_table.proofs.Parts.{lends-first, backs-first}
 use Rattle.search_table.proofs.Jobs as jobs
 use Rattle.search_table.proofs.Jobs.{say-room as job}
-use Rattle.search_table.proofs.say_store.Symbol as store-def
-use Rattle.search_table.proofs.say_store.Met as store-thm
-use Rattle.search_table.proofs.say_answer.Symbol as answer-def
-use Rattle.search_table.proofs.say_answer.Kinds as answer-kinds
-use Rattle.search_table.proofs.say_answer.Reads as answer-reads
-use Rattle.search_table.proofs.say_answer.Met as answer-thm
-use Rattle.search_table.proofs.say_room.Key.{name}
-use Rattle.search_table.proofs.say_room.Statement.{statement}
-use Rattle.search_table.proofs.say_room.Code as code
+use Rattle.search.proofs.search as search-fn
+use Rattle.search_table.proofs.say_answer as answer-fn
+use Rattle.search_table.proofs.say_store as store-fn
+use Rattle.search_table.proofs.say_room as this
 
 module _ (w : World) where
-  search : Cited job search-jobs.search w code.env search-def.name
-  search = cites job search-jobs.search w code.env search-def.name search-def.routine code.calls-search·search (search-thm.met (w .𝓤) (w .H) (w .𝓜) (w .𝓖) (w .𝓡))
+  search : Cited job search-jobs.search w this.Code.env search-fn.Symbol.name
+  search = cites job search-jobs.search w this.Code.env search-fn.Symbol.name search-fn.Symbol.routine this.Code.calls-search·search (search-fn.Met.met (w .𝓤) (w .H) (w .𝓜) (w .𝓖) (w .𝓡))
 
-  say-store : Cited job jobs.say-store w code.env store-def.name
-  say-store = cites job jobs.say-store w code.env store-def.name store-def.routine code.calls-search-table·say-store (store-thm.met (w .𝓤) (w .H) (w .𝓜) (w .𝓖) (w .𝓡))
+  say-store : Cited job jobs.say-store w this.Code.env store-fn.Symbol.name
+  say-store = cites job jobs.say-store w this.Code.env store-fn.Symbol.name store-fn.Symbol.routine this.Code.calls-search-table·say-store (store-fn.Met.met (w .𝓤) (w .H) (w .𝓜) (w .𝓖) (w .𝓡))
 
-  say-answer : (bs : List ℕ) → Callee (site job w code.env bs) 2 answer-kinds.ps answer-kinds.r answer-reads.Asked answer-reads.Learnt answer-def.name
-  say-answer bs = record { known = answer-reads.known w code.env answer-def.name answer-def.routine code.calls-search-table·say-answer (answer-thm.met (w .𝓤) (w .H) (w .𝓜) (w .𝓖) (w .𝓡)) }
+  say-answer : (bs : List ℕ) → Callee (site job w this.Code.env bs) 2 answer-fn.Kinds.ps answer-fn.Kinds.r answer-fn.Reads.Asked answer-fn.Reads.Learnt answer-fn.Symbol.name
+  say-answer bs = record { known = answer-fn.Reads.known w this.Code.env answer-fn.Symbol.name answer-fn.Symbol.routine this.Code.calls-search-table·say-answer (answer-fn.Met.met (w .𝓤) (w .H) (w .𝓜) (w .𝓖) (w .𝓡)) }
 
   module _ (κs : Lfts 4) (qs : Shares 4) where
     abbrev Begun : Cx
-    Begun = Γin 4 (job .ps) (job .r) (job .xs) 2 κs qs
+    Begun = begun job κs qs
 
     abbrev Has-a : Cx
     Has-a = After Begun 6 (is answer-type)
 
-  abbrev walk : Walked job w code.env code.function
+  abbrev walk : Walked job w this.Code.env this.Code.function
   walk κs qs bs =
       -- answer = search(sheet, &mut store[..room], &mut *plan)
       begins 4 _ free
@@ -79,7 +58,7 @@ module _ (w : World) where
       gone 5 (over (sInt w64)) free
       returned tt
 
-  laid : Laid job w code.env code.function walk
+  laid : Laid job w this.Code.env this.Code.function walk
   laid κs qs a good pre bs = (
     pre,
     λ γ. (
@@ -88,7 +67,6 @@ module _ (w : World) where
     ),
   )
 
-pub say-room-spec : {M : Type 1} → statement M
-unfolding code.routine tablesOf
-say-room-spec {M} 𝓤 H 𝓜 𝓖 𝓡 =
-    let w : World = record { M = M; 𝓤 = 𝓤; H = H; 𝓜 = 𝓜; 𝓖 = 𝓖; 𝓡 = 𝓡 } in closes job w code.env name code.function (walk w) (laid w) (code.unfolded 𝓤 H 𝓜 𝓡)
+pub say-room-spec : {M : Type 1} → this.Statement.statement M
+unfolding this.Code.routine tablesOf
+say-room-spec 𝓤 H 𝓜 𝓖 𝓡 = meets job this.Code.env this.Key.name this.Code.function walk laid (world 𝓤 H 𝓜 𝓖 𝓡) (this.Code.unfolded 𝓤 H 𝓜 𝓡)
