@@ -2,13 +2,12 @@
 -- one line after another.
 -- The idea: an end that is at most the length of a buffer is no capped one, and where the bytes fit the promise is a run of stores.
 use mathlib.Core.Path.{_≡_, refl, sym, ap, _∙_, subst}
-use mathlib.Core.Bool.{Bool, true, false, cond}
+use mathlib.Core.Bool.{Bool, true, false}
 use mathlib.Core.List.{List, _++_}
 use Prim.Native.Nat.{ℕ, _+_, _≤_, _<_}
-use native.Mathlib.Nat.{zero-add}
 use native.Mathlib.Omega.{arith}
 use lib.Dec.{leb}
-use lib.ListN.{length, drop, length-append}
+use lib.ListN.{length, length-append}
 use lib.Seq.{sets, sets-eq, length-sets}
 use borrow.Author.Tests.{le-leb, lt-leb, leb-true}
 use Rattle.line.specs.Lines.{lineOf, answerOf}
@@ -87,8 +86,3 @@ in-turn {a} {b} {at} {end} {last} {before} {middle} {after} p e o f =
     let y : at + length (a ++ b) ≡ last = omega (arith, x, length-append a b, end-within o f .0) in
     let s : after ≡ sets before at (a ++ b) = end-stored o f ∙ sets-on before at a b (end-stored p e) x in
     subst (λ (n : ℕ). Placed (a ++ b) at before after (End n)) y (stored-whole (a ++ b) at before (omega (arith, l, y, end-within o f .1)) s)
-
--- at place 0 the bytes stand at the start, and the rest is as lent
-pub at-start : (bytes before : List ℕ) → placed bytes 0 before ≡ cond (leb (length bytes) (length before)) (bytes ++ drop (length bytes) before) before
-unfolding placed
-at-start bytes before = ap (λ (n : ℕ). cond (leb n (length before)) (bytes ++ drop n before) before) (zero-add (length bytes))

@@ -44,8 +44,3 @@ module _ (word fields commands : List ℕ) where
 pub length-by-digits : (j k : ℕ) (word fields commands : List ℕ) → ((i : ℕ) → getD fields i 0 < 10 ^ suc j) → ((i : ℕ) → getD commands i 0 < 10 ^ suc k)
     → length (row word (fields ++ commands)) ≤ length word + (j + 2) * length fields + (k + 2) * length commands + 1
 length-by-digits j k word fields commands f c = omega (arith, length-row word fields commands, length-spaced j fields f, length-spaced k commands c)
-
--- so many bytes are enough for any line: fields of 64 bits have at most 20 digits, and commands, which are bytes, at most three
-pub length-at-most : (word fields commands : List ℕ) → ((i : ℕ) → getD fields i 0 < 2 ^ 64) → ((i : ℕ) → getD commands i 0 < 256)
-    → length (row word (fields ++ commands)) ≤ length word + 21 * length fields + 4 * length commands + 1
-length-at-most word fields commands f c = length-by-digits 19 2 word fields commands (λ i. omega (arith, f i)) (λ i. omega (arith, c i))

@@ -96,11 +96,6 @@ module _ {D : Domain} {x g : ℕ} (r : Ready D x) {store : List Node} {plan : Li
   done-value u = search-unique D (r .well-formed) x (r .start) g (room (length store)) (length plan) (u .searches)
       (search-exists D (r .well-formed) x (r .start) g (room (length store)) (length plan)) .0
 
-  pub done-nodes : {s : List Node} {p : List ℕ} {a : Answer} (u : SearchDone D x g store s plan p a)
-      → u .nodes ≡ computed.nodes (enumeration.listing D x) (computed.answer (enumeration.listing D x) g (room (length store)) (length plan) .count)
-  done-nodes u = search-unique D (r .well-formed) x (r .start) g (room (length store)) (length plan) (u .searches)
-      (search-exists D (r .well-formed) x (r .start) g (room (length store)) (length plan)) .1
-
 -- ---- the search of a sheet
 
 pub search-sheet-unique : {l : List ℕ} {store s t : List Node} {plan p q : List ℕ} {a b : Answer} → SheetSearched l store s plan p a → SheetSearched l store t plan q b → (a ≡ b) × (s ≡ t) × (p ≡ q)
