@@ -15,7 +15,7 @@ use Rattle.meaning.specs.Listing.{At}
 use Rattle.meaning.proofs.Places.{getD-at, at-getD, at-lt}
 use Rattle.meaning.proofs.StepLaws.{step-sends, step-stops}
 use Rattle.meaning.proofs.WalkLaws.{gives-nil, gives-snoc}
-use Rattle.judge.specs.Verdicts.{FirstMissing, WalkedTo}
+use Rattle.judge.specs.Turns.{FirstMissing, WalkedTo}
 
 -- ---- the first number that is no command
 

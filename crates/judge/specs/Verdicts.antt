@@ -5,10 +5,8 @@ use denote.Ref.{RefT}
 use Prim.Native.Nat.{ℕ, _≤_, _<_}
 use lib.ListN.{length}
 use Rattle.meaning.specs.Answers as answers
-use Rattle.meaning.specs.Answers.{Judges, NoCommand, AllCommands, NotSendable}
-use Rattle.meaning.specs.Domain.{Domain}
+use Rattle.meaning.specs.Answers.{Judges}
 use Rattle.meaning.specs.Runs as runs
-use Rattle.meaning.specs.Walk.{Gives, step}
 use Rattle.sets.specs.Words.{setOf}
 use Rattle.sheet.specs.Sheet.{domainIn}
 use Rattle.sheet.specs.Answers.{reading}
@@ -57,17 +55,3 @@ pub record BetterOf (l : List ℕ) (a b r : RefT (List ℕ)) : Type 0 where
   pub first : GoodFor l (a .now) → (GoodFor l (b .now) → length (a .now) ≤ length (b .now)) → r ≡ a
   pub second : GoodFor l (b .now) → (GoodFor l (a .now) → length (b .now) < length (a .now)) → r ≡ b
   pub neither : ¬ GoodFor l (a .now) → ¬ GoodFor l (b .now) → (r .now ≡ []) × (r .ptr ≡ a .ptr)
-
--- ---- for the judge's own steps
-
--- k is the index of the first number that is no command, or the plan's length
-pub record FirstMissing (m : ℕ) (p : List ℕ) (k : ℕ) : Type 0 where
-  pub upto : k ≤ length p
-  pub missing : k < length p → NoCommand m p k
-  pub none : k ≡ length p → AllCommands m p
-
--- the walk of the plan from x came to the set y after k commands: all of them, or as many as there are before the first that is not sendable
-pub record WalkedTo (D : Domain) (x : ℕ) (p : List ℕ) (k y : ℕ) : Type 0 where
-  pub upto : k ≤ length p
-  pub blocked : k < length p → NotSendable D x p k y
-  pub ended : k ≡ length p → Gives (step D) x p y

@@ -11,7 +11,8 @@ ghost use Rattle.meaning.specs.Answers.{Judges, judged};
 ghost use Rattle.meaning.specs.Sets.{Tells};
 ghost use Rattle.sets.specs.Words.{setOf};
 ghost use Rattle.follow.specs.Following.{domainBy};
-ghost use Rattle.judge.specs.Verdicts.{valuesOf, JudgedBy, GoodFor, ChoiceOf, BetterOf, FirstMissing, WalkedTo};
+ghost use Rattle.judge.specs.Verdicts.{valuesOf, JudgedBy, GoodFor, ChoiceOf, BetterOf};
+ghost use Rattle.judge.specs.Turns.{FirstMissing, WalkedTo};
 
 pub enum Verdict {
     Good,
