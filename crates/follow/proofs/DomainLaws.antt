@@ -11,7 +11,7 @@ use Rattle.sheet.specs.Answers.{reading}
 use Rattle.sheet.specs.declared.Head.{Head}
 use Rattle.sheet.specs.declared.Reading.the-variants.{Accepted}
 use Rattle.sheet.proofs.Accepts.{reading-accepts}
-use Rattle.sheet.proofs.Follows.{set-is-follow}
+use Rattle.shown.proofs.Follows.{set-is-follow}
 use Rattle.sheet.proofs.DomainLaws.{domain-well-formed}
 use Rattle.follow.specs.Following.{domainBy}
 

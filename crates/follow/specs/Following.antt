@@ -3,7 +3,7 @@ use mathlib.Core.List.{List}
 use Prim.Native.Nat.{ℕ}
 use Rattle.meaning.specs.Domain.{Domain}
 use Rattle.numbers.specs.Bytes.{number}
-use Rattle.sheet.specs.Shown.{shownAt}
+use Rattle.shown.specs.Shown.{shownAt}
 use Rattle.sheet.specs.declared.Head.{Head}
 
 abbrev pub domainBy : Head → List ℕ → Domain

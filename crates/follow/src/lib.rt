@@ -15,7 +15,7 @@ pub fn sendable(head: Head, sheet: &[u8], command: usize, set: Set) -> bool
     let mut state = 0;
     while state < states {
         if sets::has(set, state) {
-            if sheet::set_at(sheet, states, command, state) == 0 {
+            if shown::set_at(sheet, states, command, state) == 0 {
                 return false;
             }
         }
@@ -33,7 +33,7 @@ pub fn image(head: Head, sheet: &[u8], command: usize, set: Set) -> Set
     let mut state = 0;
     while state < states {
         if sets::has(set, state) {
-            all = sets::union(all, sheet::set_at(sheet, states, command, state));
+            all = sets::union(all, shown::set_at(sheet, states, command, state));
         }
         state += 1;
     }

@@ -5,7 +5,7 @@ use mathlib.Core.List.{List, [], _∷_}
 use Prim.Native.Nat.{ℕ}
 use lib.ListN.{length}
 use Rattle.meaning.specs.Answers as answers
-use Rattle.sheet.specs.Answers.{following, followingFrom}
+use Rattle.shown.specs.Following.{following, followingFrom}
 use Rattle.sheet.specs.declared.Reading.{Reading}
 use Rattle.sheet.specs.declared.Reading.the-variants as reading-is
 use Rattle.writer.specs.declared.Writing.{Writing}

@@ -102,8 +102,8 @@ pub extern "C" fn potuchlan_following(
 )
     ensures { λ _. ⌜ now (answer .exit) ≡ followingNumbers (now (sheet .entry)) command state ⌝ }
 {
-    let from = sheet::following_from(sheet, command, state);
-    let set = sheet::following(sheet, command, state);
+    let from = shown::following_from(sheet, command, state);
+    let set = shown::following(sheet, command, state);
     *answer = [from as u64, set.len() as u64];
 }
 

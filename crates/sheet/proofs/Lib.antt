@@ -1,11 +1,9 @@
 pub mod Rows
-pub mod Shown
 pub mod ReadLaws
 pub mod ValidLaws
 pub mod Readings
 pub mod ByCheck
 pub mod Accepts
-pub mod Follows
 pub mod Fields
 pub mod RoundTrip
 pub mod Accepted

@@ -1,4 +1,3 @@
 pub mod Sheet
 pub mod Refusals
 pub mod Answers
-pub mod Shown

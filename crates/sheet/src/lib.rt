@@ -1,5 +1,4 @@
-// Sheets: what a scanner's states, commands and following sets are, as bytes. Reading gives the head or a refusal by the table, and the following
-// sets are read straight from the caller's bytes.
+// Sheets: what a scanner's states, commands and following sets are, as bytes. Reading gives the head, or a refusal by the table.
 use numbers::eight;
 use numbers::four;
 use numbers::wide;
@@ -10,11 +9,9 @@ ghost use mathlib.Core.List.{map};
 ghost use Prim.Native.Nat.{_+_, _*_, _≤_};
 ghost use lib.Dec.{eqb};
 ghost use lib.ListN.{length};
-ghost use Rattle.numbers.specs.Bytes.{number, IsPart};
 ghost use Rattle.sheet.specs.Sheet.{setsAt, setWidth, from, setIn, sheetIn};
 ghost use Rattle.sheet.specs.Refusals.{missing, outside, isUneven, headWith, headOf, headRows, setRows, sheetRows, verdict};
-ghost use Rattle.sheet.specs.Answers.{reading, shownHead, following, followingFrom};
-ghost use Rattle.sheet.specs.Shown.{isShown, shownAt, shownFrom};
+ghost use Rattle.sheet.specs.Answers.{reading, shownHead};
 
 // Where the parts of a sheet stand, and how many bytes a set has.
 pub const STATED_AT: usize = 1;
@@ -179,58 +176,6 @@ pub fn read(sheet: &[u8]) -> Reading
     read_stated(sheet, stated)
 }
 
-// Is there a following set of that command and state?
-fn is_shown(length: usize, states: usize, command: usize, state: usize) -> bool
-    ensures { λ r. ⌜ r ≡ isShown length states command state ⌝ }
-{
-    if states <= state {
-        return false;
-    }
-    if 64 < states {
-        return false;
-    }
-    if 32 <= command {
-        return false;
-    }
-    SETS_AT + SET_WIDTH * (command * states + state) + SET_WIDTH <= length
-}
-
-// The bytes of a following set, by a count of states that the caller has from the head, and no bytes where it is missing.
-pub fn shown_at<'a>(sheet: &'a [u8], states: usize, command: usize, state: usize) -> &'a [u8]
-    ensures { λ r. ⌜ IsPart (sheet .entry) (shownFrom (now (sheet .entry)) states command state) (shownAt (now (sheet .entry)) states command state) r ⌝ }
-{
-    if is_shown(sheet.len(), states, command, state) {
-        let at = SETS_AT + SET_WIDTH * (command * states + state);
-        let end = at + SET_WIDTH;
-        &sheet[at..end]
-    } else {
-        &sheet[0..0]
-    }
-}
-
-// Where these bytes begin in the sheet: at 0 where there are none.
-fn shown_from(sheet: &[u8], states: usize, command: usize, state: usize) -> usize
-    ensures { λ r. ⌜ r ≡ shownFrom (now (sheet .entry)) states command state ⌝ }
-{
-    if is_shown(sheet.len(), states, command, state) {
-        SETS_AT + SET_WIDTH * (command * states + state)
-    } else {
-        0
-    }
-}
-
-// The following set as a number, and 0 where it is missing.
-pub fn set_at(sheet: &[u8], states: usize, command: usize, state: usize) -> Set
-    ensures { λ r. ⌜ r ≡ number (shownAt (now (sheet .entry)) states command state) ⌝ }
-{
-    let set = shown_at(sheet, states, command, state);
-    if set.len() == SET_WIDTH {
-        eight(set, 0)
-    } else {
-        0
-    }
-}
-
 // The head of a reading: one with no states and no commands where it is a refusal.
 pub fn head_of(r: Reading) -> Head
     ensures { λ h. ⌜ h ≡ shownHead r ⌝ }
@@ -244,40 +189,6 @@ pub fn head_of(r: Reading) -> Head
             goal: 0,
         },
     }
-}
-
-// The head of a sheet.
-pub fn shown_head(sheet: &[u8]) -> Head
-    ensures { λ r. ⌜ r ≡ shownHead (reading (now (sheet .entry))) ⌝ }
-{
-    head_of(read(sheet))
-}
-
-// How many states and commands a sheet has.
-pub fn states(sheet: &[u8]) -> usize
-    ensures { λ r. ⌜ r ≡ shownHead (reading (now (sheet .entry))) .states ⌝ }
-{
-    shown_head(sheet).states
-}
-
-pub fn commands(sheet: &[u8]) -> usize
-    ensures { λ r. ⌜ r ≡ shownHead (reading (now (sheet .entry))) .commands ⌝ }
-{
-    shown_head(sheet).commands
-}
-
-// The bytes of the following set of a command and a state, as a part of the sheet: no bytes where either is missing or the sheet is refused.
-pub fn following<'a>(sheet: &'a [u8], command: usize, state: usize) -> &'a [u8]
-    ensures { λ r. ⌜ IsPart (sheet .entry) (followingFrom (now (sheet .entry)) command state) (following (now (sheet .entry)) command state) r ⌝ }
-{
-    shown_at(sheet, states(sheet), command, state)
-}
-
-// Where these bytes begin in the sheet: at 0 where there are none.
-pub fn following_from(sheet: &[u8], command: usize, state: usize) -> usize
-    ensures { λ r. ⌜ r ≡ followingFrom (now (sheet .entry)) command state ⌝ }
-{
-    shown_from(sheet, states(sheet), command, state)
 }
 
 // Row 8, over the following sets that are given.

@@ -113,8 +113,8 @@ fn try_read(label: &[u8], n: usize, at: usize, b: u8) {
 fn show_first(label: &[u8], bytes: &[u8], n: usize, command: usize, state: usize) {
     if n <= bytes.len() {
         let s = &bytes[0..n];
-        let shown = sheet::following(s, command, state);
-        let set = sheet::set_at(s, sheet::states(s), command, state);
+        let shown = shown::following(s, command, state);
+        let set = shown::set_at(s, shown::states(s), command, state);
         say(label, b" SHOWN ", shown.len() as u64, set);
         io::write_all(1, b"\n");
     }

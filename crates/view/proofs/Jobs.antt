@@ -11,7 +11,7 @@ use Rattle.walks.proofs.Values.{tyOf}
 use Rattle.walks.proofs.Holders.{pHeld, rHeld}
 use Rattle.walks.proofs.Meets.{Job, job-of}
 use Rattle.numbers.specs.Bytes.{IsPart}
-use Rattle.sheet.specs.Answers as sheets
+use Rattle.shown.specs.Following as sheets
 use Rattle.view.specs.Views.{statesOf, commandsOf, viewed, viewedFrom}
 use Rattle.view.proofs.Types.{byte, view, counts}
 

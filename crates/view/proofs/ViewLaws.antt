@@ -7,9 +7,9 @@ use Prim.Native.Nat.{ℕ}
 use lib.Dec.{ltb}
 use denote.Ref.{RefT, now}
 use Rattle.numbers.specs.Bytes.{IsPart}
-use Rattle.sheet.specs.Answers.{following, followingFrom}
-use Rattle.sheet.specs.Shown.{shownAt, shownFrom}
-use Rattle.sheet.proofs.Follows.{shown-following, from-following}
+use Rattle.shown.specs.Following.{following, followingFrom}
+use Rattle.shown.specs.Shown.{shownAt, shownFrom}
+use Rattle.shown.proofs.Follows.{shown-following, from-following}
 use Rattle.view.specs.Views.{statesOf, commandsOf, viewed, viewedFrom}
 use Rattle.view.specs.declared.View.{View}
 

@@ -4,7 +4,7 @@ use mathlib.Core.List.{List, []}
 use Prim.Native.Nat.{ℕ}
 use lib.Dec.{ltb}
 use Rattle.sheet.specs.Answers.{shownHead, reading}
-use Rattle.sheet.specs.Shown.{shownAt, shownFrom}
+use Rattle.shown.specs.Shown.{shownAt, shownFrom}
 
 -- the counts of a sheet, 0 where it is refused
 abbrev pub statesOf : List ℕ → ℕ

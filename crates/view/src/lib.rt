@@ -1,7 +1,7 @@
 // The reading view of a sheet: a record that refers to the caller's bytes, with one thin function for each question.
 ghost use mathlib.Core.Path.{_≡_};
 ghost use Rattle.numbers.specs.Bytes.{IsPart};
-ghost use Rattle.sheet.specs.Answers.{following, followingFrom};
+ghost use Rattle.shown.specs.Following.{following, followingFrom};
 ghost use Rattle.view.specs.Views.{statesOf, commandsOf, viewed, viewedFrom};
 
 // The caller's sheet and its counts.
@@ -20,7 +20,7 @@ pub struct Counts {
 fn counts_of(sheet: &[u8]) -> Counts
     ensures { λ r. ⌜ (r .states ≡ statesOf (now (sheet .entry))) × (r .commands ≡ commandsOf (now (sheet .entry))) ⌝ }
 {
-    let head = sheet::shown_head(sheet);
+    let head = shown::shown_head(sheet);
     Counts {
         states: head.states,
         commands: head.commands,
@@ -37,7 +37,7 @@ fn viewed_at<'a>(
     ensures { λ r. ⌜ IsPart (sheet .entry) (viewedFrom (now (sheet .entry)) states commands command state) (viewed (now (sheet .entry)) states commands command state) r ⌝ }
 {
     if command < commands {
-        sheet::shown_at(sheet, states, command, state)
+        shown::shown_at(sheet, states, command, state)
     } else {
         &sheet[0..0]
     }

@@ -9,7 +9,7 @@ use Rattle.meaning.specs.Walk as walk
 use Rattle.meaning.proofs.SetLaws.{member}
 use Rattle.meaning.proofs.StepLaws.{image-turn-in, image-turn-out}
 use Rattle.numbers.specs.Bytes.{number}
-use Rattle.sheet.specs.Shown.{shownAt}
+use Rattle.shown.specs.Shown.{shownAt}
 use Rattle.follow.proofs.image.Statement.{statement}
 use Rattle.follow.proofs.image.Tie as tie
 

@@ -7,7 +7,7 @@ use native.Mathlib.Omega.{arith}
 use borrow.Author.Needs.{needs}
 use Rattle.meaning.proofs.StepLaws.{AllTake, all-take-sendable, cannot-sendable, take-more}
 use Rattle.numbers.specs.Bytes.{number}
-use Rattle.sheet.specs.Shown.{shownAt}
+use Rattle.shown.specs.Shown.{shownAt}
 use Rattle.follow.proofs.sendable.Statement.{statement}
 use Rattle.follow.proofs.sendable.Tie as tie
 
