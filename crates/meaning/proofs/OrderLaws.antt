@@ -1,4 +1,4 @@
--- Laws of the order of sequences.
+-- Laws of the order of sequences: by length first, and at equal length by the first difference.
 use mathlib.Core.Path.{_≡_, refl, sym, ap, _∙_, subst, subst₂}
 use mathlib.Core.Logic.{_⊎_, inl, inr, ⊎-elim}
 use mathlib.Core.List.{List, [], _∷_, _++_, append-assoc, append-nil}

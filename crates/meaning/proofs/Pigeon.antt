@@ -1,4 +1,4 @@
--- k different numbers below n: k is at most n.
+-- k different numbers below n: k is at most n. By n: the last number takes the place of the largest where that stands, so that the others lie below it.
 use mathlib.Core.Path.{_≡_, sym, _∙_, subst}
 use mathlib.Core.Logic.{_≢_}
 use Prim.Native.Nat.{ℕ, zero, suc, _≤_, _<_, zero-le, suc-le-suc}

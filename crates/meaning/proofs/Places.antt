@@ -1,4 +1,4 @@
--- Laws of places in a list, over any type of element; and in a list of entries that stands in the order of its sequences.
+-- Laws of places in a list, over any type of element, each by going along the list; and in a list of entries that stands in the order of its sequences.
 use mathlib.Core.Path.{_≡_, refl, sym, ap, _∙_, subst}
 use mathlib.Core.Logic.{_⊎_, inl, inr, ⊎-elim}
 use mathlib.Core.Option.{some, Option·none-ne-some, Option·some-injective}

@@ -1,4 +1,4 @@
--- One command from a set: when it is sendable, and which states its image has.
+-- One command from a set: when it is sendable, and which states its image has. Both go state by state, from 0 up.
 use mathlib.Core.Path.{_≡_, refl, sym, ap, _∙_, subst}
 use mathlib.Core.Logic.{_⊎_, inl, inr, _≢_, ⊎-elim}
 use mathlib.Core.Bool.{Bool, true, false, _&&_, _||_, not, cond}
