@@ -19,7 +19,7 @@ fn wide(x: u8) -> u64
 }
 
 // How many digits a number has.
-pub fn digits(n: u64) -> usize
+fn digits(n: u64) -> usize
     ensures { λ r. ⌜ r ≡ length (decimal n) ⌝ }
 {
     let mut count = 1;
@@ -39,7 +39,7 @@ pub fn plus(a: usize, b: usize) -> usize
 }
 
 // Where a field ends that starts at a place.
-pub fn after_field(at: usize, n: u64) -> usize
+fn after_field(at: usize, n: u64) -> usize
     ensures { λ r. ⌜ r ≡ capped (at + length (blank ∷ decimal n)) ⌝ }
 {
     plus(plus(at, 1), digits(n))
@@ -71,7 +71,7 @@ pub fn after_commands(at: usize, commands: &[u8]) -> usize
 }
 
 // The digits of a number, the last one first. Each function that puts bytes says where they end.
-pub fn put_number(out: &mut [u8], at: usize, n: u64) -> usize
+fn put_number(out: &mut [u8], at: usize, n: u64) -> usize
     requires { ⌜ at + length (decimal n) ≤ length (now out) ⌝ }
     ensures { λ r. ⌜ r ≡ at + length (decimal n) ⌝ }
     ensures { λ _. ⌜ now (out .exit) ≡ stored (now (out .entry)) at (decimal n) ⌝ }
@@ -89,7 +89,7 @@ pub fn put_number(out: &mut [u8], at: usize, n: u64) -> usize
 }
 
 // A field: a blank and a number.
-pub fn put_field(out: &mut [u8], at: usize, n: u64) -> usize
+fn put_field(out: &mut [u8], at: usize, n: u64) -> usize
     requires { ⌜ at + length (blank ∷ decimal n) ≤ length (now out) ⌝ }
     ensures { λ r. ⌜ r ≡ at + length (blank ∷ decimal n) ⌝ }
     ensures { λ _. ⌜ now (out .exit) ≡ stored (now (out .entry)) at (blank ∷ decimal n) ⌝ }

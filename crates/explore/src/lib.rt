@@ -26,7 +26,7 @@ pub const PLAN: u8 = 0;
 
 pub const NO_PLAN: u8 = 1;
 
-pub const NO_ROOM: u8 = 2;
+const NO_ROOM: u8 = 2;
 
 const GOES_ON: u8 = 3;
 

@@ -16,7 +16,7 @@ ghost use Rattle.sheet.specs.Answers.{reading, shownHead};
 // Where the parts of a sheet stand, and how many bytes a set has.
 pub const STATED_AT: usize = 1;
 
-pub const COUNTED_AT: usize = 5;
+const COUNTED_AT: usize = 5;
 
 pub const STATES_AT: usize = 5;
 

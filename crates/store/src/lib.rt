@@ -53,7 +53,7 @@ pub fn place_of(store: &[Node], count: usize, set: Set) -> usize
 }
 
 // The length of the plan of place `at`: how many parents there are on the way back to place 0.
-pub fn plan_length(store: &[Node], at: usize) -> usize
+fn plan_length(store: &[Node], at: usize) -> usize
     requires { ⌜ HasPath (now store) at ⌝ }
     ensures { λ r. ⌜ LengthOf (now (store .entry)) at r ⌝ }
 {
@@ -76,7 +76,7 @@ fn put_command(plan: &mut [u8], i: usize, command: u8)
 }
 
 // Writes the plan of place `at`, which has that length, into the start of the plan buffer, its last command first.
-pub fn write_plan(store: &[Node], at: usize, plan: &mut [u8], total: usize)
+fn write_plan(store: &[Node], at: usize, plan: &mut [u8], total: usize)
     requires { ⌜ LengthOf (now store) at total ⌝ }
     requires { ⌜ total ≤ length (now plan) ⌝ }
     ensures { λ _. ⌜ WrittenBack (now (store .entry)) at (now (plan .entry)) (now (plan .exit)) ⌝ }

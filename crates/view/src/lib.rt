@@ -11,9 +11,9 @@ pub struct View<'a> {
     pub commands: usize,
 }
 
-pub struct Counts {
-    pub states: usize,
-    pub commands: usize,
+struct Counts {
+    states: usize,
+    commands: usize,
 }
 
 // The work, on bytes and numbers.
