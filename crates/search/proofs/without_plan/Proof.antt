@@ -2,13 +2,20 @@
 use mathlib.Core.Path.{sym, _∙_}
 use Rattle.search.proofs.AnswerLaws.{none-found, none-more}
 use borrow.Author.Needs.{needs}
-use Rattle.search.proofs.without_plan as this
+use Rattle.search.proofs.without_plan.Statement.{statement}
+use Rattle.search.proofs.without_plan.Tie as tie
 
-returns : this.Tie.Need-returns
+answered-requires : tie.Need-answered-requires
+answered-requires c κs = search needs
+
+answered-requires-2 : tie.Need-answered-requires-2
+answered-requires-2 c κs = search needs
+
+returns : tie.Need-returns
 returns c = c .answered .ensures ∙ sym (none-found _ (c .before .if1 .taken))
 
-returns-2 : this.Tie.Need-returns-2
+returns-2 : tie.Need-returns-2
 returns-2 c = c .answered2 .ensures ∙ sym (none-more _ (c .before .if1 .left))
 
-pub without-plan-spec : {M : Type 1} → this.Statement.statement M
-without-plan-spec = this.Tie.close (this.Tie.spec (λ c κs. search needs) (λ c κs. search needs) returns returns-2)
+pub without-plan-spec : {M : Type 1} → statement M
+without-plan-spec = tie.close (tie.spec answered-requires answered-requires-2 returns returns-2)
