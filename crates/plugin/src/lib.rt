@@ -102,9 +102,8 @@ pub extern "C" fn potuchlan_following(
 )
     ensures { λ _. ⌜ now (answer .exit) ≡ followingNumbers (now (sheet .entry)) command state ⌝ }
 {
-    let from = shown::following_from(sheet, command, state);
-    let set = shown::following(sheet, command, state);
-    *answer = [from as u64, set.len() as u64];
+    let set = shown::following_span(sheet, command, state);
+    *answer = [set.from as u64, set.length as u64];
 }
 
 // Judges a plan: number (0 for good), place, set, states still possible.

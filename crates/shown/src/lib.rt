@@ -7,6 +7,7 @@ use sheet::SETS_AT;
 use sheet::head_of;
 use sheet::read;
 ghost use mathlib.Core.Path.{_≡_};
+ghost use lib.ListN.{length};
 ghost use Rattle.numbers.specs.Bytes.{number, IsPart};
 ghost use Rattle.sheet.specs.Answers.{reading, shownHead};
 ghost use Rattle.shown.specs.Following.{following, followingFrom};
@@ -91,9 +92,20 @@ pub fn following<'a>(sheet: &'a [u8], command: usize, state: usize) -> &'a [u8]
     shown_at(sheet, states(sheet), command, state)
 }
 
-// Where these bytes begin in the sheet: at 0 where there are none.
-pub fn following_from(sheet: &[u8], command: usize, state: usize) -> usize
-    ensures { λ r. ⌜ r ≡ followingFrom (now (sheet .entry)) command state ⌝ }
+// Where these bytes stand in the sheet: an offset and how many they are, both 0 where there are none.
+pub struct Span {
+    pub from: usize,
+    pub length: usize,
+}
+
+pub fn following_span(sheet: &[u8], command: usize, state: usize) -> Span
+    ensures { λ r. ⌜ r .from ≡ followingFrom (now (sheet .entry)) command state ⌝ }
+    ensures { λ r. ⌜ r .length ≡ length (following (now (sheet .entry)) command state) ⌝ }
 {
-    shown_from(sheet, states(sheet), command, state)
+    let states = states(sheet);
+    let set = shown_at(sheet, states, command, state);
+    Span {
+        from: shown_from(sheet, states, command, state),
+        length: set.len(),
+    }
 }
