@@ -11,7 +11,8 @@ use borrow.Author.Tests.{eqb-true, eq-eqb}
 use Rattle.meaning.specs.Domain.{Domain}
 use Rattle.meaning.specs.Walk.{sendable, image, step}
 use Rattle.meaning.proofs.StepLaws.{step-sends, step-stops}
-use Rattle.sets.specs.Words.{setOf}
+use Rattle.sets.specs.Words.{Value, setOf, setFor}
+use Rattle.sets.proofs.Values.{stands-for}
 use Rattle.store.specs.declared.Node.{Node}
 use Rattle.store.specs.Nodes.{nodeAt, setAt, Found}
 use Rattle.explore.specs.Turns.{not-sendable, seen, Fresh, NextAt}
@@ -27,14 +28,14 @@ module _ (D : Domain) (l : List Node) (count i a : ℕ) {m : Node} (e : m ≡ no
   next-none q n = record { old = λ z. not-sendable (step-stops D (setAt l i) a (sends ∙ q)); fresh = λ z. absurd (true≢false (sym z ∙ n)) }
 
   -- it gives the set y, which was looked up
-  pub next-set : {y k : ℕ} {g : Next} → b ≡ true → setOf y ≡ image (D .follow a) (setOf (m .set)) (D .states) → Found l count (setOf y) k → g .new ≡ eqb k count → g .set ≡ y → NextAt D l count i a g
+  pub next-set : {y : Value} {k : ℕ} {g : Next} → b ≡ true → y ≡ setFor (image (D .follow a) (setOf (m .set)) (D .states)) → Found l count (setOf y) k → g .new ≡ eqb k count → g .set ≡ y → NextAt D l count i a g
   next-set {y} {k} {g} q v f n w = record {
     old = λ z. seen gives (below z) (f .here (below z));
-    fresh = λ z. subst (λ (x : ℕ). Fresh D l count i a (setOf x)) (sym w) (record { gives = gives; nowhere = f .nowhere (eqb-true k count (sym n ∙ z)) });
+    fresh = λ z. subst (Fresh D l count i a) (sym w) (record { value = v ∙ ap setFor (sym (stands-for v)); gives = gives; nowhere = f .nowhere (eqb-true k count (sym n ∙ z)) });
   }
     where
       gives : step D (setAt l i) a ≡ some (setOf y)
-      gives = step-sends D (setAt l i) a (sends ∙ q) ∙ ap {B = Option ℕ} some (ap (λ (x : Node). image (D .follow a) (setOf (x .set)) (D .states)) (sym e) ∙ sym v)
+      gives = step-sends D (setAt l i) a (sends ∙ q) ∙ ap {B = Option ℕ} some (ap (λ (x : Node). image (D .follow a) (setOf (x .set)) (D .states)) (sym e) ∙ sym (stands-for v))
 
       below : g .new ≡ false → k < count
       below z = go (eq-or-lt-of-le (f .within))

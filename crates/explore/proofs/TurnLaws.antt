@@ -20,6 +20,8 @@ use Rattle.meaning.specs.Enumeration.{listing, root}
 use Rattle.meaning.specs.Progress.{Progress}
 use Rattle.meaning.proofs.Places.{at-fun, at-lt}
 use Rattle.meaning.proofs.ProgressLaws.{progress-none, progress-seen, progress-grow, new-place, not-all, progress-turn, progress-end, progress-start, place-0}
+use Rattle.sets.specs.Words.{Value, setOf, setFor}
+use Rattle.sets.proofs.Values.{for-set}
 use Rattle.store.specs.declared.Node.{Node}
 use Rattle.store.specs.Nodes.{node, nothing, nodeAt, setAt, meant}
 use Rattle.explore.specs.Ready.{Ready}
@@ -42,21 +44,28 @@ kept-on {c} {d} {l} {m} {n} a b h = record { as-long = b .as-long ∙ a .as-long
 
 -- ---- the records that are stored
 
--- one place more
-stored-more : {D : Domain} {x count : ℕ} {l l′ : List Node} {n : Node} → Stored D x count l → count < length l → l′ ≡ set l count n → Holds (listing D x) count (meant n) → Stored D x (count + 1) l′
-stored-more {D} {x} {count} {l} {l′} {n} s h e new = record { holds = λ k b. subst (λ (m : List Node). Holds (listing D x) k (meant (nodeAt m k))) (sym e) (at k b) }
+-- what holds of each of the first places holds of one more
+places-more : (P : ℕ → Node → Type 0) {count : ℕ} (l : List Node) {l′ : List Node} (n : Node) → ((k : ℕ) → k < count → P k (nodeAt l k)) → count < length l → l′ ≡ set l count n → P count n
+    → (k : ℕ) → k < count + 1 → P k (nodeAt l′ k)
+places-more P {count} l {l′} n f h e new k b = subst (λ (m : List Node). P k (nodeAt m k)) (sym e)
+    (⊎-elim (λ q. subst (λ (j : ℕ). P j (nodeAt (set l count n) j)) (sym q) last) before (eq-or-lt-of-le (le-of-suc-le-suc (subst (λ (j : ℕ). k < j) (add-one count) b))))
   where
-    before : (k : ℕ) → k < count → Holds (listing D x) k (meant (nodeAt (set l count n) k))
-    before k b =
-        let other : k ≢ count = λ q. lt-irrefl count (subst (λ (j : ℕ). j < count) q b) in
-        subst (λ (m : Node). Holds (listing D x) k (meant m)) (sym (getD-set-other l count k n nothing other)) (s .holds k b)
+    before : k < count → P k (nodeAt (set l count n) k)
+    before c =
+        let other : k ≢ count = λ q. lt-irrefl count (subst (λ (j : ℕ). j < count) q c) in
+        subst (P k) (sym (getD-set-other l count k n nothing other)) (f k c)
 
-    last : Holds (listing D x) count (meant (nodeAt (set l count n) count))
-    last = subst (λ (m : Node). Holds (listing D x) count (meant m)) (sym (getD-set-same l count n nothing h)) new
+    last : P count (nodeAt (set l count n) count)
+    last = subst (P count) (sym (getD-set-same l count n nothing h)) new
 
-    at : (k : ℕ) → k < count + 1 → Holds (listing D x) k (meant (nodeAt (set l count n) k))
-    at k b = ⊎-elim (λ q. subst (λ (j : ℕ). Holds (listing D x) j (meant (nodeAt (set l count n) j))) (sym q) last) (before k)
-        (eq-or-lt-of-le (le-of-suc-le-suc (subst (λ (j : ℕ). k < j) (add-one count) b)))
+stored-more : {D : Domain} {x count : ℕ} {l l′ : List Node} (n : Node) → Stored D x count l → count < length l → l′ ≡ set l count n → n .set ≡ setFor (setOf (n .set)) → Holds (listing D x) count (meant n) → Stored D x (count + 1) l′
+stored-more {D} {x} {l = l} n s h e value new = record {
+  values = places-more (λ k (m : Node). m .set ≡ setFor (setOf (m .set))) l n (s .values) h e value;
+  holds = places-more (λ k (m : Node). Holds (listing D x) k (meant m)) l n (s .holds) h e new;
+}
+
+stored-none : {D : Domain} {x : ℕ} {l : List Node} → Stored D x 0 l
+stored-none = record { values = λ k h. absurd (not-suc-le-zero h); holds = λ k h. absurd (not-suc-le-zero h) }
 
 -- place 0 holds the initial set
 pub start-is : {D : Domain} {x g room i a count : ℕ} {l : List Node} → Going D x g room i a count l → 0 < count → setAt l 0 ≡ x
@@ -105,7 +114,10 @@ module _ {D : Domain} {x g room i a count : ℕ} {l : List Node} (r : Going D x 
     ended = λ z. absurd (z refl);
   }
 
-  module _ {y : ℕ} (f : Fresh D l count i a y) where
+  module _ {z : Value} (f : Fresh D l count i a z) where
+    abbrev y : ℕ
+    y = setOf z
+
     taken : step D (here .entry .set) a ≡ some y
     unfolding here
     taken = subst (λ (z : ℕ). step D z a ≡ some y) (here .its-set) (f .gives)
@@ -135,9 +147,9 @@ module _ {D : Domain} {x g room i a count : ℕ} {l : List Node} (r : Going D x 
         outside k e u = le-of-suc-le-suc (lt-of-not-le (λ b. r .none-inside k e (omega (arith, b, q)) (u .at-place) (u .inside)))
 
     -- it is stored
-    module _ (b : count < room) {l′ : List Node} (e : l′ ≡ set l count (node y i a)) where
+    module _ (b : count < room) {l′ : List Node} (e : l′ ≡ set l count (node z i a)) where
       more : Stored D x (count + 1) l′
-      more = stored-more (r .stored) (omega (arith, b, r .there)) e (record {
+      more = stored-more (node z i a) (r .stored) (omega (arith, b, r .there)) e (f .value) (record {
         entry = record { set = y; seq = then (here .entry .seq) a };
         at-place = new-at;
         its-set = refl;
@@ -145,7 +157,7 @@ module _ {D : Domain} {x g room i a count : ℕ} {l : List Node} (r : Going D x 
       })
 
       as-long : length l′ ≡ length l
-      as-long = ap length e ∙ length-set l count (node y i a)
+      as-long = ap length e ∙ length-set l count (node z i a)
 
       new-on : ¬ (y ⊆ g) → Going D x g room i (a + 1) (count + 1) l′
       new-on out = record {
@@ -171,7 +183,7 @@ module _ {D : Domain} {x g room i a count : ℕ} {l : List Node} (r : Going D x 
 
       pub tried-new : {t : Turn} → Tested y g (count + 1) t → Turned D x g room i (a + 1) count l l′ t
       tried-new {t} u = record {
-        kept = subst (λ (n : ℕ). Kept n l l′) (sym (u .count-is)) (subst (λ (m : List Node). Kept (count + 1) l m) (sym e) (kept-put l count (node y i a)));
+        kept = subst (λ (n : ℕ). Kept n l l′) (sym (u .count-is)) (subst (λ (m : List Node). Kept (count + 1) l m) (sym e) (kept-put l count (node z i a)));
         grown = omega (arith, u .count-is);
         on = λ z. ⊎-elim (λ c. absurd (omega (arith, c .0, z))) (λ c. subst (λ (n : ℕ). Going D x g room i (a + 1) n l′) (sym (u .count-is)) (new-on (c .1))) (u .case);
         ended = λ z. ⊎-elim (λ c. new-ended (c .0) (u .count-is) (c .1)) (λ c. absurd (z (c .0))) (u .case);
@@ -286,25 +298,28 @@ module _ {D : Domain} {x : ℕ} (r : Ready D x) (g room : ℕ) (l : List Node) (
   no-place {t} z e = subst (Explored D x g room 0 l l) (sym e) record {
     kept = kept-all 0 l;
     grown = omega arith;
-    ended = ended-full r (record { holds = λ k h. absurd (not-suc-le-zero h) }) (omega arith) there refl
+    ended = ended-full r stored-none (omega arith) there refl
         (record { is-full = sym z; more = omega (arith, at-lt at-0, z); none-inside = λ k f u. omega (arith, z) });
   }
 
   -- the initial set is stored at place 0
-  module _ (some : 0 < room) {l′ : List Node} (e : l′ ≡ set l 0 (node x 0 255)) {t : Turn} (u : Tested x g 1 t) where
+  module _ (some : 0 < room) {l′ : List Node} (z : Value) (is : setOf z ≡ x) (e : l′ ≡ set l 0 (node z 0 255)) {t : Turn} (tested : Tested (setOf z) g 1 t) where
+    u : Tested x g 1 t
+    u = subst (λ (y : ℕ). Tested y g 1 t) is tested
+
     as-long₀ : length l′ ≡ length l
-    as-long₀ = ap length e ∙ length-set l 0 (node x 0 255)
+    as-long₀ = ap length e ∙ length-set l 0 (node z 0 255)
 
     stored-1 : Stored D x 1 l′
-    stored-1 = stored-more {count = 0} {l = l} (record { holds = λ k h. absurd (not-suc-le-zero h) }) (omega (arith, some, there)) e (record {
+    stored-1 = stored-more {count = 0} {l = l} (node z 0 255) stored-none (omega (arith, some, there)) e (sym (for-set z)) (record {
       entry = root x;
       at-place = at-0;
-      its-set = refl;
+      its-set = is;
       link = initial refl refl refl;
     })
 
     kept-1 : Kept 1 l l′
-    kept-1 = subst (λ (m : List Node). Kept 1 l m) (sym e) (kept-put l 0 (node x 0 255))
+    kept-1 = subst (λ (m : List Node). Kept 1 l m) (sym e) (kept-put l 0 (node z 0 255))
 
     -- it is inside the goal
     pub started-ended : t .kind ≢ goes-on → Explored D x g room 0 l l′ t

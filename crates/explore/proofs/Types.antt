@@ -1,6 +1,7 @@
 -- The declared types as a walk takes them, and their fields that are read.
 use mathlib.Core.Path.{refl}
 use Rattle.walks.proofs.Steps.{tyInt, tyBool, w64, w8, vint, vbool, whole, Site, SeesAt, Value, struct-of, field-of}
+use Rattle.store.proofs.SetSteps.{SetIn, set-ty}
 use Rattle.sheet.proofs.Head as Head
 use Rattle.sheet.proofs.Head.Laws as HeadL
 use Rattle.explore.proofs.Turn as Turn
@@ -30,5 +31,5 @@ module _ {w : Site} where
   abbrev pub new-of : SeesAt w (whole Next.the-row) tyBool 0 (λ d. vbool (d .new))
   new-of = field-of Next.the-type NextL.the-laws 0 tyBool 0 refl
 
-  abbrev pub next-set-of : SeesAt w (whole Next.the-row) (tyInt w64) 8 (λ d. vint w64 (d .set))
-  next-set-of = field-of Next.the-type NextL.the-laws 1 (tyInt w64) 8 refl
+  abbrev pub next-set-of : SetIn w (whole Next.the-row) 8 (λ d. d .set)
+  next-set-of = field-of Next.the-type NextL.the-laws 1 set-ty 8 refl

@@ -13,7 +13,7 @@ use Rattle.meaning.specs.Listing.{Entry, At, Holds}
 use Rattle.meaning.specs.Answers.{FirstInside, NoneInside}
 use Rattle.meaning.specs.Enumeration.{listing}
 use Rattle.meaning.specs.Progress.{Progress}
-use Rattle.sets.specs.Words.{setOf}
+use Rattle.sets.specs.Words.{Value, setOf, setFor}
 use Rattle.store.specs.declared.Node.{Node}
 use Rattle.store.specs.Nodes.{nodeAt, setAt, meant}
 use Rattle.explore.specs.Ready.{Ready}
@@ -43,14 +43,15 @@ pub data Old (D : Domain) (l : List Node) (count i a : ℕ) : Type 0 where
   not-sendable : step D (setAt l i) a ≡ none → Old D l count i a
   seen : {y k : ℕ} → step D (setAt l i) a ≡ some y → k < count → setAt l k ≡ y → Old D l count i a
 
--- the command gives the set y, and no place holds it
-pub record Fresh (D : Domain) (l : List Node) (count i a y : ℕ) : Type 0 where
-  pub gives : step D (setAt l i) a ≡ some y
-  pub nowhere : (k : ℕ) → k < count → setAt l k ≢ y
+-- the command gives the set that the value y stands for, and no place holds it
+pub record Fresh (D : Domain) (l : List Node) (count i a : ℕ) (y : Value) : Type 0 where
+  pub value : y ≡ setFor (setOf y)
+  pub gives : step D (setAt l i) a ≡ some (setOf y)
+  pub nowhere : (k : ℕ) → k < count → setAt l k ≢ setOf y
 
 pub record NextAt (D : Domain) (l : List Node) (count i a : ℕ) (g : Next) : Type 0 where
   pub old : g .new ≡ false → Old D l count i a
-  pub fresh : g .new ≡ true → Fresh D l count i a (setOf (g .set))
+  pub fresh : g .new ≡ true → Fresh D l count i a (g .set)
 
 -- the goal test of a set that is stored
 pub record Tested (y g count : ℕ) (t : Turn) : Type 0 where
@@ -59,8 +60,9 @@ pub record Tested (y g count : ℕ) (t : Turn) : Type 0 where
 
 -- ---- the store
 
--- the first places hold the records of the listing
+-- the first places hold the records of the listing, each set as the value that stands for it
 pub record Stored (D : Domain) (x count : ℕ) (l : List Node) : Type 0 where
+  pub values : (k : ℕ) → k < count → nodeAt l k .set ≡ setFor (setAt l k)
   pub holds : (k : ℕ) → k < count → Holds (listing D x) k (meant (nodeAt l k))
 
 -- the later places are as before

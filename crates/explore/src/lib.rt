@@ -76,7 +76,8 @@ fn stored(set: Set, goal: Set, count: usize) -> Turn
 fn nothing_new() -> Next
     ensures { λ r. ⌜ r .new ≡ false ⌝ }
 {
-    Next { new: false, set: 0 }
+    let set = sets::empty();
+    Next { new: false, set }
 }
 
 // The set, found at place `at` by a look-up among `count` places.

@@ -4,7 +4,7 @@ use sets::Set;
 use sheet::Head;
 ghost use mathlib.Core.Path.{_≡_};
 ghost use Rattle.meaning.specs.Walk as walk;
-ghost use Rattle.sets.specs.Words.{setOf};
+ghost use Rattle.sets.specs.Words.{setOf, setFor};
 ghost use Rattle.follow.specs.Following.{domainBy};
 
 // Whether each state of `set` can take `command`. It stops at the first that cannot.
@@ -15,7 +15,7 @@ pub fn sendable(head: Head, sheet: &[u8], command: usize, set: Set) -> bool
     let mut state = 0;
     while state < states {
         if sets::has(set, state) {
-            if shown::set_at(sheet, states, command, state) == 0 {
+            if sets::is_empty(shown::set_at(sheet, states, command, state)) {
                 return false;
             }
         }
@@ -26,10 +26,10 @@ pub fn sendable(head: Head, sheet: &[u8], command: usize, set: Set) -> bool
 
 // The union of what follows each state of `set` by `command`.
 pub fn image(head: Head, sheet: &[u8], command: usize, set: Set) -> Set
-    ensures { λ r. ⌜ setOf r ≡ walk.image (domainBy head (now (sheet .entry)) .follow command) (setOf set) (head .states) ⌝ }
+    ensures { λ r. ⌜ r ≡ setFor (walk.image (domainBy head (now (sheet .entry)) .follow command) (setOf set) (head .states)) ⌝ }
 {
     let states = head.states;
-    let mut all = 0;
+    let mut all = sets::empty();
     let mut state = 0;
     while state < states {
         if sets::has(set, state) {

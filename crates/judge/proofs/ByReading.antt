@@ -2,8 +2,11 @@
 use mathlib.Core.Path.{_≡_, sym, ap, _∙_, subst}
 use mathlib.Core.List.{List}
 use Prim.Native.Nat.{ℕ}
+use Rattle.meaning.specs.Sets.{empty}
 use Rattle.meaning.specs.Domain.{Domain}
 use Rattle.meaning.specs.Answers.{Judges}
+use Rattle.sets.specs.Words.{setOf, setFor}
+use Rattle.sets.proofs.Values.{for-set}
 use Rattle.sheet.specs.Sheet.{domainIn}
 use Rattle.sheet.specs.Answers.{reading}
 use Rattle.sheet.specs.declared.Head.{Head}
@@ -17,15 +20,17 @@ use Rattle.judge.specs.declared.Judged.{Judged}
 use Rattle.judge.specs.Verdicts.{valuesOf, JudgedBy}
 
 module _ (l p : List ℕ) (j : Judged) where
-  pub by-refusal : {f : Refusal} → reading l ≡ reading-is.Refused f → j ≡ record { verdict = Refused f; set = 0; left = 0 } → JudgedBy l p j
+  pub by-refusal : {f : Refusal} → reading l ≡ reading-is.Refused f → j ≡ record { verdict = Refused f; set = setFor empty; left = 0 } → JudgedBy l p j
   by-refusal {f} e q = record {
-    refused = λ {f = g} d. q ∙ ap (λ (k : Refusal). let i : Judged = record { verdict = Refused k; set = 0; left = 0 } in i) (refused-inj (sym e ∙ d));
+    value = sym (for-set (j .set));
+    refused = λ {f = g} d. q ∙ ap (λ (k : Refusal). let i : Judged = record { verdict = Refused k; set = setFor empty; left = 0 } in i) (refused-inj (sym e ∙ d));
     accepted = λ {h} d. absurd (not-both (sym d ∙ e));
   }
 
-  pub by-head : {h : Head} → reading l ≡ reading-is.Accepted h → Judges (domainBy h l) (h .initial) (h .goal) p (valuesOf j) → JudgedBy l p j
+  pub by-head : {h : Head} → reading l ≡ reading-is.Accepted h → Judges (domainBy h l) (setOf (h .initial)) (setOf (h .goal)) p (valuesOf j) → JudgedBy l p j
   by-head {h} e u = record {
+    value = sym (for-set (j .set));
     refused = λ {f} d. absurd (not-both (sym e ∙ d));
-    accepted = λ {h = k} d. subst (λ (g : Head). Judges (domainIn l) (g .initial) (g .goal) p (valuesOf j)) (accepted-inj (sym e ∙ d))
-        (subst (λ (D : Domain). Judges D (h .initial) (h .goal) p (valuesOf j)) (domain-is l h e) u);
+    accepted = λ {h = k} d. subst (λ (g : Head). Judges (domainIn l) (setOf (g .initial)) (setOf (g .goal)) p (valuesOf j)) (accepted-inj (sym e ∙ d))
+        (subst (λ (D : Domain). Judges D (setOf (h .initial)) (setOf (h .goal)) p (valuesOf j)) (domain-is l h e) u);
   }

@@ -11,6 +11,7 @@ use Rattle.meaning.specs.Sets.{Tells}
 use Rattle.meaning.specs.Runs as runs
 use Rattle.meaning.specs.Answers as answers
 use Rattle.meaning.proofs.JudgeLaws.{judged-good, refused-not-good}
+use Rattle.sets.specs.Words.{setOf}
 use Rattle.sheet.specs.Sheet.{domainIn}
 use Rattle.sheet.specs.Answers.{reading}
 use Rattle.sheet.specs.declared.Head.{Head}
@@ -28,7 +29,7 @@ good-is Good e = refl
 good-is (Refused f) e = absurd (refused-not-good e)
 
 module _ {l p : List ℕ} {j : Judged} (u : JudgedBy l p j) where
-  by-head : (h : Head) → reading l ≡ reading-is.Accepted h → (verdictOf (j .verdict) ≡ answers.good) ↔ runs.Good (domainIn l) (h .initial) (h .goal) p
+  by-head : (h : Head) → reading l ≡ reading-is.Accepted h → (verdictOf (j .verdict) ≡ answers.good) ↔ runs.Good (domainIn l) (setOf (h .initial)) (setOf (h .goal)) p
   by-head h e = judged-good (domainIn l) (domain-well-formed l h e) (initial-start l h e) (u .accepted e)
 
   -- the judge says good exactly of the plans that are good for the sheet

@@ -14,6 +14,7 @@ use Rattle.meaning.specs.Computed as computed
 use Rattle.meaning.proofs.JudgeLaws as laws
 use Rattle.meaning.proofs.JudgeLaws.{judges-unique, judge-meets, judged-11, good-dec}
 use Rattle.meaning.proofs.Agreement.{Blocks, blocked-is-stuck}
+use Rattle.sets.specs.Words.{setOf, setFor}
 use Rattle.sheet.specs.Sheet.{domainIn}
 use Rattle.sheet.specs.Answers.{reading}
 use Rattle.sheet.specs.declared.Head.{Head}
@@ -34,10 +35,10 @@ verdict-inj Good (Refused g) e f = absurd (laws.refused-not-good (sym e))
 verdict-inj (Refused g) Good e f = absurd (laws.refused-not-good e)
 verdict-inj (Refused g) (Refused h) e f = λ i. Refused (record { number = laws.refused-inj e i; place = f i })
 
-values-inj : (i j : Judged) → valuesOf i ≡ valuesOf j → i ≡ j
-values-inj i j e = λ k. record {
+values-inj : {l p : List ℕ} {i j : Judged} → JudgedBy l p i → JudgedBy l p j → valuesOf i ≡ valuesOf j → i ≡ j
+values-inj {i} {j} u v e = λ k. record {
   verdict = verdict-inj (i .verdict) (j .verdict) (ap (λ (v : answers.Judged). v .verdict) e) (ap (λ (v : answers.Judged). v .place) e) k;
-  set = ap (λ (v : answers.Judged). v .set) e k;
+  set = (u .value ∙ ap (λ (v : answers.Judged). setFor (v .set)) e ∙ sym (v .value)) k;
   left = ap (λ (v : answers.Judged). v .left) e k;
 }
 
@@ -46,19 +47,19 @@ module _ {l p : List ℕ} where
   judge-unique {i} {j} u v = go (reading l) refl
     where
       go : (r : Reading) → reading l ≡ r → i ≡ j
-      go (reading-is.Accepted h) e = values-inj i j (judges-unique (domainIn l) (h .initial) (h .goal) p (u .accepted e) (v .accepted e))
+      go (reading-is.Accepted h) e = values-inj u v (judges-unique (domainIn l) (setOf (h .initial)) (setOf (h .goal)) p (u .accepted e) (v .accepted e))
       go (reading-is.Refused f) e = u .refused e ∙ sym (v .refused e)
 
   module _ {j : Judged} {h : Head} (u : JudgedBy l p j) (e : reading l ≡ reading-is.Accepted h) where
     -- for an accepted sheet the answer is the computed one
-    pub judge-value : valuesOf j ≡ computed.judge (domainIn l) (h .initial) (h .goal) p
-    judge-value = judges-unique (domainIn l) (h .initial) (h .goal) p (u .accepted e) (judge-meets (domainIn l) (h .initial) (h .goal) p)
+    pub judge-value : valuesOf j ≡ computed.judge (domainIn l) (setOf (h .initial)) (setOf (h .goal)) p
+    judge-value = judges-unique (domainIn l) (setOf (h .initial)) (setOf (h .goal)) p (u .accepted e) (judge-meets (domainIn l) (setOf (h .initial)) (setOf (h .goal)) p)
 
     -- 11 is given exactly when the command at that index is the first that is not sendable; there some run is stuck
-    pub eleven-iff : (k y : ℕ) → (valuesOf j ≡ judged (answers.refused 11) k y) ↔ (AllCommands (domainIn l .commands) p × NotSendable (domainIn l) (h .initial) p k y)
-    eleven-iff k y = judged-11 (domainIn l) (h .initial) (h .goal) p (u .accepted e) k y
+    pub eleven-iff : (k y : ℕ) → (valuesOf j ≡ judged (answers.refused 11) k y) ↔ (AllCommands (domainIn l .commands) p × NotSendable (domainIn l) (setOf (h .initial)) p k y)
+    eleven-iff k y = judged-11 (domainIn l) (setOf (h .initial)) (setOf (h .goal)) p (u .accepted e) k y
 
-    pub eleven-stuck : (k y : ℕ) → valuesOf j ≡ judged (answers.refused 11) k y → Blocks (domainIn l) (domain-well-formed l h e) (h .initial) p k y
+    pub eleven-stuck : (k y : ℕ) → valuesOf j ≡ judged (answers.refused 11) k y → Blocks (domainIn l) (domain-well-formed l h e) (setOf (h .initial)) p k y
     eleven-stuck k y q = blocked-is-stuck (domainIn l) (domain-well-formed l h e) (initial-start l h e .within) (eleven-iff k y .0 q .1)
 
 -- ---- the better of two plans
@@ -70,8 +71,8 @@ good-for-dec l p = go (reading l) refl
     go (reading-is.Refused f) e = inr (λ g. not-both (sym (g .accepted) ∙ e))
     go (reading-is.Accepted h) e = ⊎-elim
         (λ g. inl (record { head = h; accepted = e; good = g }))
-        (λ n. inr (λ g. n (subst (λ (k : Head). runs.Good (domainIn l) (k .initial) (k .goal) p) (accepted-inj (sym (g .accepted) ∙ e)) (g .good))))
-        (good-dec (domainIn l) (domain-well-formed l h e) (initial-start l h e) (h .goal) p)
+        (λ n. inr (λ g. n (subst (λ (k : Head). runs.Good (domainIn l) (setOf (k .initial)) (setOf (k .goal)) p) (accepted-inj (sym (g .accepted) ∙ e)) (g .good))))
+        (good-dec (domainIn l) (domain-well-formed l h e) (initial-start l h e) (setOf (h .goal)) p)
 
 -- every two plans are in one of the three cases
 data Case (l a b : List ℕ) : Type 0 where

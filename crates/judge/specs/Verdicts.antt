@@ -7,7 +7,8 @@ use lib.ListN.{length}
 use Rattle.meaning.specs.Answers as answers
 use Rattle.meaning.specs.Answers.{Judges}
 use Rattle.meaning.specs.Runs as runs
-use Rattle.sets.specs.Words.{setOf}
+use Rattle.meaning.specs.Sets.{empty}
+use Rattle.sets.specs.Words.{setOf, setFor}
 use Rattle.sheet.specs.Sheet.{domainIn}
 use Rattle.sheet.specs.Answers.{reading}
 use Rattle.sheet.specs.declared.Head.{Head}
@@ -30,9 +31,10 @@ placeOf (Refused f) = f .place
 abbrev pub valuesOf : Judged → answers.Judged
 valuesOf j = record { verdict = verdictOf (j .verdict); place = placeOf (j .verdict); set = setOf (j .set); left = j .left }
 
--- the judge's answer for the sheet l and the plan p. A refused sheet has the empty set.
+-- the judge's answer for the sheet l and the plan p. A refused sheet has the empty set; `value` says which value of type `Set` the answer holds.
 pub record JudgedBy (l p : List ℕ) (j : Judged) : Type 0 where
-  pub refused : {f : Refusal} → reading l ≡ reading-is.Refused f → j ≡ record { verdict = Refused f; set = 0; left = 0 }
+  pub value : j .set ≡ setFor (setOf (j .set))
+  pub refused : {f : Refusal} → reading l ≡ reading-is.Refused f → j ≡ record { verdict = Refused f; set = setFor empty; left = 0 }
   pub accepted : {h : Head} → reading l ≡ reading-is.Accepted h → Judges (domainIn l) (setOf (h .initial)) (setOf (h .goal)) p (valuesOf j)
 
 -- ---- the better of two plans

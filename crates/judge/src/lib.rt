@@ -81,7 +81,7 @@ fn judge_by(head: Head, sheet: &[u8], plan: &[u8]) -> Judged
     let length = plan.len();
     let missing = first_missing(plan, head.commands);
     if missing < length {
-        return refused(10, missing, 0);
+        return refused(10, missing, sets::empty());
     }
     let end = walk(head, sheet, plan);
     if end.at < length {
@@ -104,7 +104,7 @@ pub fn judge(sheet: &[u8], plan: &[u8]) -> Judged
     match sheet::read(sheet) {
         Reading::Refused(f) => Judged {
             verdict: Verdict::Refused(f),
-            set: 0,
+            set: sets::empty(),
             left: 0,
         },
         Reading::Accepted(head) => judge_by(head, sheet, plan),

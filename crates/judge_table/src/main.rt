@@ -1,6 +1,7 @@
 // Judges plans and picks the better of two, on the sheets of the scope and on the room of document 001, and prints a line for each: the label,
 // and then the verdict with its number and place, the set, and how many states are still possible.
 use judge::Verdict;
+use sets::of_word;
 
 // The room of 4 by 4 places of document 001: place (x, y) is state 4 * y + x, (1, 1) is a hole and (2, 2) is slippery. The commands are west,
 // east, north and south; one that may end in the hole is impossible.
@@ -96,7 +97,7 @@ fn say(label: &[u8], sheet: &[u8], plan: &[u8]) {
             field(q.place as u64);
         }
     }
-    field(judged.set);
+    field(sets::to_word(judged.set));
     field(judged.left as u64);
     io::write_all(1, b"\n");
 }
@@ -125,7 +126,7 @@ fn say_better<'a>(label: &[u8], sheet: &[u8], first: &'a [u8], second: &'a [u8])
 // The bytes of a sheet of two states and two commands.
 fn small(initial: u64, goal: u64, sets: [u64; 4]) -> [u8; 55] {
     let mut out = [0u8; 55];
-    writer::write(2, 2, initial, goal, &sets, &mut out);
+    writer::write(2, 2, of_word(initial), of_word(goal), &sets, &mut out);
     out
 }
 
@@ -142,7 +143,7 @@ fn partial() -> [u8; 55] {
 fn room(initial: u64) -> [u8; 535] {
     let mut out = [0u8; 535];
     let sets = ROOM;
-    writer::write(16, 4, initial, 2176, &sets, &mut out);
+    writer::write(16, 4, of_word(initial), of_word(2176), &sets, &mut out);
     out
 }
 

@@ -1,13 +1,13 @@
 -- The lowest state by counting zeros, a set less one of its states, and the size of a set. Each goes by halving the number.
 use mathlib.Core.Path.{_≡_, refl, sym, ap, ap₂, _∙_, subst}
-use mathlib.Core.Logic.{_⊎_, inl, inr, _≢_}
-use Prim.Native.Nat.{ℕ, zero, suc, _+_, _-_, _/_, _%_, _^_, _≤_, _<_, zero-le, suc-le-suc, max}
+use mathlib.Core.Logic.{_⊎_, inl, inr, ⊎-elim, _≢_, _↔_}
+use Prim.Native.Nat.{ℕ, zero, suc, _+_, _-_, _*_, _/_, _%_, _^_, _≤_, _<_, zero-le, suc-le-suc, max}
 use native.Mathlib.Nat.{le-trans, le-of-eq, lt-irrefl, lt-of-not-le, pow-suc, not-suc-le-zero, le-of-suc-le-suc, zero-add}
 use native.Mathlib.Omega.{arith}
 use lib.Arith.{bin-ind, lt-one}
 use lib.Bits.{or-shr}
 use lib.Count.{ones, ones-step, trailingZeros, under}
-use Rattle.meaning.specs.Sets.{bit, _∈_, union, size}
+use Rattle.meaning.specs.Sets.{bit, _∈_, union, without, size}
 use Rattle.meaning.proofs.SetLaws.{member, bit-cases, bit-zero, bit-suc, ∈-lt, bit-or, some-member}
 
 -- ---- the lowest state
@@ -68,6 +68,22 @@ kept zero zero x m h = absurd (h refl)
 kept zero (suc t) x m h = bit-suc t (x - 1) ∙ ap (bit t) (omega (arith, odd m)) ∙ sym (bit-suc t x)
 kept (suc s) zero x m h = bit-zero (x - 2 ^ suc s) ∙ low-remove s x (member-ge m) ∙ sym (bit-zero x)
 kept (suc s) (suc t) x m h = bit-suc t (x - 2 ^ suc s) ∙ ap (bit t) (half-remove s x) ∙ kept s t (x / 2) (half-member m) (λ e. h (ap suc e)) ∙ sym (bit-suc t x)
+
+-- whether it has the state or not
+pub without-in : {s x : ℕ} → s ∈ x → without x s ≡ x - 2 ^ s
+without-in {s} {x} m = ap (λ (b : ℕ). x - b * 2 ^ s) (m .is-one) ∙ omega arith
+
+pub without-not : (s x : ℕ) → bit s x ≡ 0 → without x s ≡ x
+without-not s x e = ap (λ (b : ℕ). x - b * 2 ^ s) e ∙ omega arith
+
+bit-without : (s t x : ℕ) → t ≢ s → bit t (without x s) ≡ bit t x
+bit-without s t x h = ⊎-elim (λ e. ap (bit t) (without-not s x e)) (λ e. ap (bit t) (without-in (member e)) ∙ kept s t x (member e) h) (bit-cases s x)
+
+pub without-removes : (s x : ℕ) → ¬ (s ∈ without x s)
+without-removes s x m = omega (arith, m .is-one, ⊎-elim (λ e. ap (bit s) (without-not s x e) ∙ e) (λ e. ap (bit s) (without-in (member e)) ∙ removed s x (member e)) (bit-cases s x))
+
+pub without-keeps : (s t x : ℕ) → t ≢ s → t ∈ without x s ↔ t ∈ x
+without-keeps s t x h = let e = bit-without s t x h in (λ m. member (sym e ∙ m .is-one), λ m. member (e ∙ m .is-one))
 
 -- ---- size
 

@@ -1,7 +1,7 @@
 -- Sets of states. A set is a number, and its bit s stands for state s. Nothing here fixes a number of bits.
 use mathlib.Core.Path.{_≡_}
 use mathlib.Core.Bool.{Bool, true, false}
-use Prim.Native.Nat.{ℕ, _/_, _%_, _^_}
+use Prim.Native.Nat.{ℕ, _-_, _*_, _/_, _%_, _^_}
 use lib.Bits.{bitOr}
 use lib.Count.{ones}
 
@@ -26,6 +26,10 @@ empty = 0
 -- the states that are in x or in y
 abbrev pub union : ℕ → ℕ → ℕ
 union x y = bitOr x y
+
+-- the states of x but for s
+abbrev pub without : ℕ → ℕ → ℕ
+without x s = x - bit s x * 2 ^ s
 
 -- how many states x has
 abbrev pub size : ℕ → ℕ

@@ -17,6 +17,7 @@ use Rattle.meaning.specs.Answers as answers
 use Rattle.meaning.specs.Computed as computed
 use Rattle.meaning.specs.Enumeration as enumeration
 use Rattle.meaning.proofs.JudgeLaws as laws
+use Rattle.sets.specs.Words.{setOf}
 use Rattle.sheet.specs.Sheet.{Sheet, domainIn}
 use Rattle.sheet.specs.Answers.{reading}
 use Rattle.writer.specs.Written.{writing}
@@ -122,7 +123,7 @@ judged-zero {l} {p} {n} u = (λ z. good-iff-runs (u .judged) .0 (go (u .answer .
             let k : f .number ≡ q .number = laws.refused-inj (sym (ap verdictOf e) ∙ ap (λ (j : Judged). verdictOf (j .verdict)) (u .judged .refused d)) in
             omega (arith, k, reading-gives l q d .0)
         by-reading (reading-is.Accepted h) d =
-            judge-small (domainIn l) (h .initial) (h .goal) p .bounds (sym (ap (λ (j : answers.Judged). j .verdict) (judge-value (u .judged) d)) ∙ ap verdictOf e) .0
+            judge-small (domainIn l) (setOf (h .initial)) (setOf (h .goal)) p .bounds (sym (ap (λ (j : answers.Judged). j .verdict) (judge-value (u .judged) d)) ∙ ap verdictOf e) .0
 
     go : (v : judge.Verdict) → u .answer .verdict ≡ v → verdictNumber (verdictOf (u .answer .verdict)) ≡ 0 → u .answer .verdict ≡ judge-is.Good
     go judge-is.Good e z = e
@@ -140,7 +141,7 @@ module _ {l : List ℕ} {store s : List Node} {plan q : List ℕ} {a : Answer} (
           (omega (arith, i, c .0), omega (arith, i, c .1))
       go (reading-is.Accepted h) d =
           let done = u .accepted d in
-          search-small (enumeration.listing (domainIn l) (h .initial)) (h .goal) (answers.room (length store)) (length plan) .bounds
+          search-small (enumeration.listing (domainIn l) (setOf (h .initial))) (setOf (h .goal)) (answers.room (length store)) (length plan) .bounds
           (sym (ap (λ (r : answers.Searched). r .verdict) (done .answer-is ∙ done-value (sheet-ready l d) done)) ∙ ap found-as e)
 
   numbered-as : (v : search.Verdict) → a .verdict ≡ v → verdictNumber (found-as (a .verdict)) ≡ verdictNumber (found-as v)

@@ -5,6 +5,7 @@ use mathlib.Core.List.{List, [], _∷_}
 use Prim.Native.Nat.{ℕ}
 use lib.ListN.{length}
 use Rattle.meaning.specs.Answers as answers
+use Rattle.sets.specs.Words.{setOf}
 use Rattle.shown.specs.Following.{following, followingFrom}
 use Rattle.sheet.specs.declared.Reading.{Reading}
 use Rattle.sheet.specs.declared.Reading.the-variants as reading-is
@@ -18,7 +19,7 @@ use Rattle.search.specs.declared.Answer.{Answer}
 
 -- 0 for an accepted sheet and the head, or the refusal's number and place
 abbrev pub readNumbers : Reading → List ℕ
-readNumbers (reading-is.Accepted h) = 0 ∷ 0 ∷ h .states ∷ h .commands ∷ h .initial ∷ h .goal ∷ []
+readNumbers (reading-is.Accepted h) = 0 ∷ 0 ∷ h .states ∷ h .commands ∷ setOf (h .initial) ∷ setOf (h .goal) ∷ []
 readNumbers (reading-is.Refused f) = f .number ∷ f .place ∷ 0 ∷ 0 ∷ 0 ∷ 0 ∷ []
 
 -- 0 for a sheet that is written and its bytes, or the refusal's number and place

@@ -2,6 +2,8 @@
 // the caller lends. Nothing is asked of a caller: bad input gets a refusal.
 use judge::Judged;
 use search::Answer;
+use sets::of_word;
+use sets::to_word;
 use sheet::Reading;
 use store::Node;
 use writer::Writing;
@@ -19,7 +21,11 @@ fn read_numbers(r: Reading) -> [u64; 6]
     ensures { λ n. ⌜ n ≡ readNumbers r ⌝ }
 {
     match r {
-        Reading::Accepted(h) => [0, 0, h.states as u64, h.commands as u64, h.initial, h.goal],
+        Reading::Accepted(h) => {
+            let initial = to_word(h.initial);
+            let goal = to_word(h.goal);
+            [0, 0, h.states as u64, h.commands as u64, initial, goal]
+        }
         Reading::Refused(f) => [f.number as u64, f.place as u64, 0, 0, 0, 0],
     }
 }
@@ -36,10 +42,11 @@ fn write_numbers(w: Writing) -> [u64; 3]
 fn judged_numbers(j: Judged) -> [u64; 4]
     ensures { λ n. ⌜ n ≡ judgedNumbers (valuesOf j) ⌝ }
 {
+    let set = to_word(j.set);
     let verdict = j.verdict;
     match verdict {
-        judge::Verdict::Good => [0, 0, j.set, j.left as u64],
-        judge::Verdict::Refused(f) => [f.number as u64, f.place as u64, j.set, j.left as u64],
+        judge::Verdict::Good => [0, 0, set, j.left as u64],
+        judge::Verdict::Refused(f) => [f.number as u64, f.place as u64, set, j.left as u64],
     }
 }
 
@@ -89,6 +96,8 @@ pub extern "C" fn potuchlan_write(
     ensures { λ _. ⌜ now (answer .exit) ≡ writeNumbers (writing (sheetWith states commands initial goal (now (given .entry))) (length (now (out .entry)))) ⌝ }
     ensures { λ _. ⌜ now (out .exit) ≡ written (sheetWith states commands initial goal (now (given .entry))) (now (out .entry)) ⌝ }
 {
+    let initial = of_word(initial);
+    let goal = of_word(goal);
     *answer = write_numbers(writer::write(states, commands, initial, goal, given, out));
 }
 

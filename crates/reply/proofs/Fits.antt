@@ -17,6 +17,7 @@ use Rattle.meaning.proofs.JudgeLaws.{refused-inj, gives-commands}
 use Rattle.meaning.proofs.Meanings.{plan-not-refused, none-not-refused}
 use Rattle.meaning.proofs.SearchLaws as answers
 use Rattle.meaning.proofs.SearchLaws.{Answered, answered, count-fits}
+use Rattle.sets.specs.Words.{setOf}
 use Rattle.sheet.specs.Sheet.{domainIn}
 use Rattle.sheet.specs.Answers.{reading}
 use Rattle.sheet.specs.declared.Head.{Head}
@@ -82,25 +83,25 @@ abbrev buffer : List ℕ
 buffer = replicate places 0
 
 module _ {l : List ℕ} {h : Head} (e : reading l ≡ reading-is.Accepted h) {s : List Node} {p : List ℕ} {a : Answer} (u : SheetSearched l store s buffer p a) where
-  abbrev done : SearchDone (domainIn l) (h .initial) (h .goal) store s buffer p a
+  abbrev done : SearchDone (domainIn l) (setOf (h .initial)) (setOf (h .goal)) store s buffer p a
   done = u .accepted e
 
   count-at-most : a .count ≤ 4096
   count-at-most = omega (
     arith,
-    count-fits (h .goal) (done .searches .listing) (room (length store)) (length buffer) (done .searches .answers) .0,
+    count-fits (setOf (h .goal)) (done .searches .listing) (room (length store)) (length buffer) (done .searches .answers) .0,
     ap (λ (o : Searched). o .count) (done .answer-is),
     length-replicate places nothing,
   )
 
   -- a refusal can only be 13: a plan that is longer than the buffer would be longer than the count
   only-thirteen : {n : ℕ} → a .verdict ≡ verdict-is.Refused n → n ≡ 13
-  only-thirteen {n} q = go (answered (h .goal) (done .searches .listing) (room (length store)) (length buffer) (done .searches .answers))
+  only-thirteen {n} q = go (answered (setOf (h .goal)) (done .searches .listing) (room (length store)) (length buffer) (done .searches .answers))
     where
       says : {r : Searched} → done .says ≡ r → r .verdict ≡ meaning.refused n
       says f = ap (λ (o : Searched). o .verdict) (sym (done .answer-is ∙ f)) ∙ ap verdictOf q
 
-      go : Answered (h .goal) (done .searches .listing) (room (length store)) (length buffer) (done .says) → n ≡ 13
+      go : Answered (setOf (h .goal)) (done .searches .listing) (room (length store)) (length buffer) (done .says) → n ≡ 13
       go (answers.plan b k m f) = absurd (plan-not-refused (says f))
       go (answers.too-long b k m f) =
           let shorter = length-below-count l e u (inr (q ∙ ap verdict-is.Refused (sym (refused-inj (says f))))) in

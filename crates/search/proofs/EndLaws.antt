@@ -2,8 +2,8 @@
 -- sequence of the last place.
 use mathlib.Core.Path.{_≡_, refl, sym, ap, _∙_, subst}
 use mathlib.Core.Logic.{_≢_}
-use mathlib.Core.List.{List, [], _++_, map}
-use Prim.Native.Nat.{ℕ, zero, suc, _-_, _≤_, _<_}
+use mathlib.Core.List.{List, [], _∷_, _++_, map}
+use Prim.Native.Nat.{ℕ, zero, suc, _-_, _≤_, _<_, suc-le-suc}
 use native.Mathlib.Nat.{lt-of-not-le, not-suc-le-zero}
 use native.Mathlib.Decide.{decLe}
 use native.Mathlib.Omega.{arith}
@@ -20,7 +20,8 @@ use Rattle.meaning.proofs.SearchLaws.{answers-plan, answers-too-long, answers-n
 use Rattle.meaning.proofs.Enumerated.{listing-correct}
 use Rattle.meaning.proofs.ProgressLaws.{place-0}
 use Rattle.store.specs.declared.Node.{Node}
-use Rattle.store.specs.Nodes.{nothing, nodeAt, meant}
+use Rattle.sets.specs.Words.{setFor}
+use Rattle.store.specs.Nodes.{node, nothing, nodeAt, setAt, meant, nodeFor}
 use Rattle.store.specs.Paths.{Path, start, step}
 use Rattle.explore.specs.Ready.{Ready}
 use Rattle.explore.specs.Turns.{ends-plan, ends-no-plan, ends-no-room, Stored, Ended, Explored, LastInside}
@@ -72,6 +73,12 @@ stored-nodes {D} {x} {count} {l} s b = record {
       subst (Holds (listing D x) k) (ap meant (at-getD nothing (at-take count (m .1))) ∙ m .2) (s .holds k (take-lt l count (m .1)));
 }
 
+-- the first places are the values of what they stand for
+own-values : (n : ℕ) (l : List Node) → ((k : ℕ) → k < n → nodeAt l k .set ≡ setFor (setAt l k)) → take n l ≡ map nodeFor (map meant (take n l))
+own-values zero l f = refl
+own-values (suc n) [] f = refl
+own-values (suc n) (m ∷ l) f = λ i. node (f 0 (omega arith) i) (m .parent) (m .command) ∷ own-values n l (λ k h. f (suc k) (suc-le-suc h)) i
+
 -- ---- the answer
 
 module _ {D : Domain} {x g : ℕ} {store store′ : List Node} {t : Turn} {plan plan′ : List ℕ} {a : Answer}
@@ -89,7 +96,7 @@ module _ {D : Domain} {x g : ℕ} {store store′ : List Node} {t : Turn} {plan 
       store = stored-nodes (subst (λ (n : ℕ). Stored D x n store′) (sym c) (v .ended .stored)) (omega (arith, c, v .ended .fits, v .ended .there));
     };
     answer-is = q;
-    first-places = refl;
+    first-places = own-values (r .count) store′ (subst (λ (n : ℕ). Stored D x n store′) (sym c) (v .ended .stored) .values);
     later-places = subst (λ (n : ℕ). drop n store′ ≡ drop n store) (sym c) (v .kept .later);
     plan-is = p;
   }

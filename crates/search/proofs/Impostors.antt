@@ -13,6 +13,8 @@ use Rattle.meaning.specs.Enumeration.{hasSet, add, tried, expanded, listing}
 use Rattle.meaning.specs.Computed as computed
 use Rattle.meaning.specs.Computed.{firstInside, byLast, sameSeq, placeOf, nodeOf, nodes}
 use Rattle.meaning.proofs.Meanings.{search-exists}
+use Rattle.sets.specs.Words.{setOf, setFor}
+use Rattle.sets.proofs.Values.{set-for}
 use Rattle.numbers.specs.Bytes.{number}
 use Rattle.sheet.specs.Sheet.{sheetIn, domain, domainIn}
 use Rattle.sheet.specs.Answers.{reading}
@@ -20,7 +22,7 @@ use Rattle.sheet.specs.declared.Head.{Head}
 use Rattle.sheet.proofs.Bench.{S, partial, swap, drift, reads-S, reads-S-two, reads-S-none, reads-partial, reads-swap, reads-swap-all, reads-drift}
 use Rattle.sheet.specs.declared.Reading.the-variants.{Accepted}
 use Rattle.store.specs.declared.Node.{Node}
-use Rattle.store.specs.Nodes.{node, nothing, nodeAt, meant}
+use Rattle.store.specs.Nodes.{node, nothing, nodeAt, setAt, nodeFor}
 use Rattle.search.specs.Done.{searchedOf, answer, SheetSearched}
 use Rattle.search.specs.declared.Verdict.the-variants.{Plan, NoPlan, Refused}
 use Rattle.search.specs.declared.Answer.{Answer}
@@ -33,18 +35,18 @@ pub record Only (l : List ℕ) (store : List Node) (plan : List ℕ) (a : Answer
   pub answers : {b : Answer} {t : List Node} {q : List ℕ} → SheetSearched l store t plan q b → (b ≡ a) × (t ≡ s) × (q ≡ p)
 
 module _ {l : List ℕ} {h : Head} (e : reading l ≡ Accepted h) {store : List Node} {plan : List ℕ} {a : Answer} {s : List Node} {p : List ℕ} (w : List ℕ) where
-  only : computed.answer (listing (domainIn l) (h .initial)) (h .goal) (room (length store)) (length plan) ≡ searchedOf a w
-      → nodes (listing (domainIn l) (h .initial)) (a .count) ≡ map meant (take (a .count) s) → drop (a .count) s ≡ drop (a .count) store → p ≡ w ++ drop (length w) plan
+  only : (m : List records.Node) → computed.answer (listing (domainIn l) (setOf (h .initial))) (setOf (h .goal)) (room (length store)) (length plan) ≡ searchedOf a w
+      → nodes (listing (domainIn l) (setOf (h .initial))) (a .count) ≡ m → take (a .count) s ≡ map nodeFor m → drop (a .count) s ≡ drop (a .count) store → p ≡ w ++ drop (length w) plan
       → Only l store plan a s p
-  only c n d q = record {
+  only m c n f d q = record {
     answers = λ u. done-unique (sheet-ready l e) (u .accepted e) (record {
       says = searchedOf a w;
-      nodes = map meant (take (a .count) s);
-      searches = subst₂ (λ (r : Searched) (m : List records.Node). Searches (domainIn l) (h .initial) (h .goal) (room (length store)) (length plan) r m) c
-          (ap (λ (r : Searched). nodes (listing (domainIn l) (h .initial)) (r .count)) c ∙ n)
-          (search-exists (domainIn l) (sheet-ready l e .well-formed) (h .initial) (sheet-ready l e .start) (h .goal) (room (length store)) (length plan));
+      nodes = m;
+      searches = subst₂ (λ (r : Searched) (k : List records.Node). Searches (domainIn l) (setOf (h .initial)) (setOf (h .goal)) (room (length store)) (length plan) r k) c
+          (ap (λ (r : Searched). nodes (listing (domainIn l) (setOf (h .initial))) (r .count)) c ∙ n)
+          (search-exists (domainIn l) (sheet-ready l e .well-formed) (setOf (h .initial)) (sheet-ready l e .start) (setOf (h .goal)) (room (length store)) (length plan));
       answer-is = refl;
-      first-places = refl;
+      first-places = f;
       later-places = d;
       plan-is = q;
     });
@@ -59,37 +61,37 @@ buffer = 9 ∷ 9 ∷ 9 ∷ 9 ∷ []
 
 -- ---- what the promise leaves there
 
-pub only-S : Only (S 1) (places 4) buffer (answer Plan 0 2 1) (node 3 0 255 ∷ node 1 0 1 ∷ places 2) (1 ∷ 9 ∷ 9 ∷ 9 ∷ [])
-unfolding computed.answer firstInside listing expanded tried add hasSet step sendable image nodes nodeOf placeOf sameSeq byLast domain sheetIn number
-only-S = only reads-S (1 ∷ []) refl refl refl refl
+pub only-S : Only (S 1) (places 4) buffer (answer Plan 0 2 1) (node (setFor 3) 0 255 ∷ node (setFor 1) 0 1 ∷ places 2) (1 ∷ 9 ∷ 9 ∷ 9 ∷ [])
+unfolding computed.answer firstInside listing expanded tried add hasSet step sendable image nodes nodeOf placeOf sameSeq byLast domain sheetIn number setOf setFor
+only-S = only reads-S (1 ∷ []) _ refl refl refl refl refl
 
-pub only-S-two : Only (S 2) (places 4) buffer (answer Plan 0 3 2) (node 3 0 255 ∷ node 1 0 1 ∷ node 2 1 0 ∷ places 1) (1 ∷ 0 ∷ 9 ∷ 9 ∷ [])
-unfolding computed.answer firstInside listing expanded tried add hasSet step sendable image nodes nodeOf placeOf sameSeq byLast domain sheetIn number
-only-S-two = only reads-S-two (1 ∷ 0 ∷ []) refl refl refl refl
+pub only-S-two : Only (S 2) (places 4) buffer (answer Plan 0 3 2) (node (setFor 3) 0 255 ∷ node (setFor 1) 0 1 ∷ node (setFor 2) 1 0 ∷ places 1) (1 ∷ 0 ∷ 9 ∷ 9 ∷ [])
+unfolding computed.answer firstInside listing expanded tried add hasSet step sendable image nodes nodeOf placeOf sameSeq byLast domain sheetIn number setOf setFor
+only-S-two = only reads-S-two (1 ∷ 0 ∷ []) _ refl refl refl refl refl
 
-pub only-S-full : Only (S 1) (places 1) buffer (answer (Refused 13) 0 1 0) (node 3 0 255 ∷ []) buffer
-unfolding computed.answer firstInside listing expanded tried add hasSet step sendable image nodes nodeOf placeOf sameSeq byLast domain sheetIn number
-only-S-full = only reads-S [] refl refl refl refl
+pub only-S-full : Only (S 1) (places 1) buffer (answer (Refused 13) 0 1 0) (node (setFor 3) 0 255 ∷ []) buffer
+unfolding computed.answer firstInside listing expanded tried add hasSet step sendable image nodes nodeOf placeOf sameSeq byLast domain sheetIn number setOf setFor
+only-S-full = only reads-S [] _ refl refl refl refl refl
 
-pub only-S-none : Only (S 0) (places 2) buffer (answer (Refused 13) 0 2 0) (node 3 0 255 ∷ node 1 0 1 ∷ []) buffer
-unfolding computed.answer firstInside listing expanded tried add hasSet step sendable image nodes nodeOf placeOf sameSeq byLast domain sheetIn number
-only-S-none = only reads-S-none [] refl refl refl refl
+pub only-S-none : Only (S 0) (places 2) buffer (answer (Refused 13) 0 2 0) (node (setFor 3) 0 255 ∷ node (setFor 1) 0 1 ∷ []) buffer
+unfolding computed.answer firstInside listing expanded tried add hasSet step sendable image nodes nodeOf placeOf sameSeq byLast domain sheetIn number setOf setFor
+only-S-none = only reads-S-none [] _ refl refl refl refl refl
 
-pub only-partial : Only partial (places 4) buffer (answer NoPlan 0 1 0) (node 3 0 255 ∷ places 3) buffer
-unfolding computed.answer firstInside listing expanded tried add hasSet step sendable image nodes nodeOf placeOf sameSeq byLast domain sheetIn number
-only-partial = only reads-partial [] refl refl refl refl
+pub only-partial : Only partial (places 4) buffer (answer NoPlan 0 1 0) (node (setFor 3) 0 255 ∷ places 3) buffer
+unfolding computed.answer firstInside listing expanded tried add hasSet step sendable image nodes nodeOf placeOf sameSeq byLast domain sheetIn number setOf setFor
+only-partial = only reads-partial [] _ refl refl refl refl refl
 
-pub only-swap : Only (swap 1 2) (places 4) buffer (answer Plan 0 2 1) (node 1 0 255 ∷ node 2 0 0 ∷ places 2) (0 ∷ 9 ∷ 9 ∷ 9 ∷ [])
-unfolding computed.answer firstInside listing expanded tried add hasSet step sendable image nodes nodeOf placeOf sameSeq byLast domain sheetIn number
-only-swap = only reads-swap (0 ∷ []) refl refl refl refl
+pub only-swap : Only (swap 1 2) (places 4) buffer (answer Plan 0 2 1) (node (setFor 1) 0 255 ∷ node (setFor 2) 0 0 ∷ places 2) (0 ∷ 9 ∷ 9 ∷ 9 ∷ [])
+unfolding computed.answer firstInside listing expanded tried add hasSet step sendable image nodes nodeOf placeOf sameSeq byLast domain sheetIn number setOf setFor
+only-swap = only reads-swap (0 ∷ []) _ refl refl refl refl refl
 
-pub only-swap-all : Only (swap 3 1) (places 1) buffer (answer NoPlan 0 1 0) (node 3 0 255 ∷ []) buffer
-unfolding computed.answer firstInside listing expanded tried add hasSet step sendable image nodes nodeOf placeOf sameSeq byLast domain sheetIn number
-only-swap-all = only reads-swap-all [] refl refl refl refl
+pub only-swap-all : Only (swap 3 1) (places 1) buffer (answer NoPlan 0 1 0) (node (setFor 3) 0 255 ∷ []) buffer
+unfolding computed.answer firstInside listing expanded tried add hasSet step sendable image nodes nodeOf placeOf sameSeq byLast domain sheetIn number setOf setFor
+only-swap-all = only reads-swap-all [] _ refl refl refl refl refl
 
-pub only-drift : Only drift (places 4) buffer (answer NoPlan 0 2 0) (node 1 0 255 ∷ node 3 0 0 ∷ places 2) buffer
-unfolding computed.answer firstInside listing expanded tried add hasSet step sendable image nodes nodeOf placeOf sameSeq byLast domain sheetIn number
-only-drift = only reads-drift [] refl refl refl refl
+pub only-drift : Only drift (places 4) buffer (answer NoPlan 0 2 0) (node (setFor 1) 0 255 ∷ node (setFor 3) 0 0 ∷ places 2) buffer
+unfolding computed.answer firstInside listing expanded tried add hasSet step sendable image nodes nodeOf placeOf sameSeq byLast domain sheetIn number setOf setFor
+only-drift = only reads-drift [] _ refl refl refl refl refl
 
 -- ---- the impostors
 
@@ -111,7 +113,7 @@ module _ {a : Answer} {s : List Node} {p : List ℕ} where
 
   -- one that touches nothing
   pub not-untouched : SheetSearched (S 1) (places 4) s buffer p a → s ≢ places 4
-  not-untouched u z = omega (arith, ap (λ (l : List Node). nodeAt l 0 .set) (sym (only-S .answers u .1) ∙ z))
+  not-untouched u z = omega (arith, sym (set-for 3) ∙ ap (λ (l : List Node). setAt l 0) (sym (only-S .answers u .1) ∙ z) ∙ set-for 0)
 
   -- one that expands only the initial set: it finds two sets, whatever verdict it then invents
   pub not-first-only : SheetSearched (S 2) (places 4) s buffer p a → a .count ≢ 2

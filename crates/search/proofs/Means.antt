@@ -16,6 +16,7 @@ use Rattle.meaning.proofs.JudgeLaws.{judged-good}
 use Rattle.meaning.proofs.SearchLaws as answers
 use Rattle.meaning.proofs.SearchLaws.{Answered, answered}
 use Rattle.meaning.proofs.Meanings.{FirstGood, plan-is-first, too-long-means, no-plan-means, plan-shorter, room-suffices}
+use Rattle.sets.specs.Words.{setOf}
 use Rattle.sheet.specs.Sheet.{domainIn}
 use Rattle.sheet.specs.Answers.{reading}
 use Rattle.sheet.specs.declared.Head.{Head}
@@ -85,19 +86,19 @@ module _ {D : Domain} {x g : ℕ} (r : Ready D x) {store s : List Node} {plan p 
 
 module _ (l : List ℕ) {h : Head} (e : reading l ≡ Accepted h) {store s : List Node} {plan p : List ℕ} {a : Answer} (u : SheetSearched l store s plan p a) where
   -- a found plan is good, and no good plan comes before it
-  pub found-is-first : a .verdict ≡ Plan → FirstGood (domainIn l) (h .initial) (h .goal) (take (a .length) p)
+  pub found-is-first : a .verdict ≡ Plan → FirstGood (domainIn l) (setOf (h .initial)) (setOf (h .goal)) (take (a .length) p)
   found-is-first = done-plan (sheet-ready l e) (u .accepted e)
 
   -- the judge of this sheet and this plan says good
-  pub found-is-judged-good : a .verdict ≡ Plan → {j : Judged} → Judges (domainIn l) (h .initial) (h .goal) (take (a .length) p) j → j .verdict ≡ meaning.good
+  pub found-is-judged-good : a .verdict ≡ Plan → {j : Judged} → Judges (domainIn l) (setOf (h .initial)) (setOf (h .goal)) (take (a .length) p) j → j .verdict ≡ meaning.good
   found-is-judged-good q v = judged-good (domainIn l) (sheet-ready l e .well-formed) (sheet-ready l e .start) v .1 (found-is-first q .good)
 
   -- 14 gives the length of that plan, and the plan buffer is shorter
-  pub fourteen-means : a .verdict ≡ Refused 14 → (q : List ℕ) × FirstGood (domainIn l) (h .initial) (h .goal) q × (a .length ≡ length q) × (a .place ≡ length q) × (length plan < length q)
+  pub fourteen-means : a .verdict ≡ Refused 14 → (q : List ℕ) × FirstGood (domainIn l) (setOf (h .initial)) (setOf (h .goal)) q × (a .length ≡ length q) × (a .place ≡ length q) × (length plan < length q)
   fourteen-means = done-too-long (sheet-ready l e) (u .accepted e)
 
   -- where the answer is 'no plan', no sequence of any length is good
-  pub no-plan-is-good : a .verdict ≡ NoPlan → (q : List ℕ) → ¬ Good (domainIn l) (h .initial) (h .goal) q
+  pub no-plan-is-good : a .verdict ≡ NoPlan → (q : List ℕ) → ¬ Good (domainIn l) (setOf (h .initial)) (setOf (h .goal)) q
   no-plan-is-good = done-no-plan (sheet-ready l e) (u .accepted e)
 
   -- a plan is shorter than the count

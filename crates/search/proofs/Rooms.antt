@@ -1,18 +1,18 @@
 -- A larger store: it changes no answer but 13, and what it holds only goes on. Both stores hold the start of one listing, and the count never falls.
-use mathlib.Core.Path.{_≡_, sym, ap, _∙_, subst, subst₂}
+use mathlib.Core.Path.{_≡_, refl, sym, ap, _∙_, subst}
 use mathlib.Core.Logic.{_⊎_, inl, inr, ⊎-elim}
-use mathlib.Core.List.{List, _++_, map}
-use Prim.Native.Nat.{ℕ, _≤_, _<_}
+use mathlib.Core.List.{List, [], _∷_, _++_, map}
+use Prim.Native.Nat.{ℕ, zero, suc, _≤_, _<_}
 use native.Mathlib.Nat.{lt-of-lt-of-le, le-trans}
 use native.Mathlib.Omega.{arith}
-use lib.ListN.{length, take, drop, length-map, length-take}
-use lib.Seq.{length-take-le}
+use lib.ListN.{length, take, drop}
+use lib.Seq.{length-take-le, take-take}
 use Rattle.meaning.specs.Domain.{Domain}
 use Rattle.meaning.specs.Walk.{step}
 use Rattle.meaning.specs.Listing as listing
 use Rattle.meaning.specs.Listing.{Entry, Stores}
 use Rattle.meaning.specs.Answers.{Searched, Answers, FirstInside, noRoom, room}
-use Rattle.meaning.proofs.Places.{at-take, take-at, take-lt, at-map, map-at}
+use Rattle.meaning.proofs.Places.{at-take}
 use Rattle.meaning.proofs.ListingLaws.{listing-unique}
 use Rattle.meaning.proofs.StoreLaws.{stores-unique}
 use Rattle.meaning.proofs.SearchLaws as answers
@@ -21,13 +21,13 @@ use Rattle.sheet.specs.Answers.{reading}
 use Rattle.sheet.specs.declared.Head.{Head}
 use Rattle.sheet.specs.declared.Reading.the-variants.{Accepted}
 use Rattle.store.specs.declared.Node.{Node}
-use Rattle.store.specs.Nodes.{meant}
+use Rattle.store.specs.Nodes.{nodeFor}
 use Rattle.explore.specs.Ready.{Ready}
 use Rattle.search.specs.Done.{SearchDone, SheetSearched}
 use Rattle.search.specs.declared.Verdict.the-variants.{Refused}
 use Rattle.search.specs.declared.Answer.{Answer}
 use Rattle.search.proofs.SheetLaws.{sheet-ready}
-use Rattle.search.proofs.Unique.{verdict-inj, answer-inj, all-meant-inj}
+use Rattle.search.proofs.Unique.{verdict-inj, answer-inj}
 
 -- ---- over a list
 
@@ -56,13 +56,13 @@ counts-grow g {l} {c} {d} {b} {r} {s} h u v = go (answered g l c b u)
 -- ---- two stores
 
 -- the records of the first c places, where those of the first d are known
-fewer : {l : List Entry} {c d : ℕ} (t : List Node) → c ≤ d → Stores l d (map meant (take d t)) → Stores l c (map meant (take c t))
-fewer {l} {c} {d} t h u = record {
-  as-many = length-map (take c t) meant ∙ length-take-le c t (omega (arith, h, sym (length-map (take d t) meant) ∙ u .as-many, length-take d t));
-  holds = λ {k} {n} v.
-      let m = map-at (take c t) meant v in
-      subst (listing.Holds l k) (m .2) (u .holds (at-map meant (take-at (lt-of-lt-of-le (take-lt t c (m .1)) h) (at-take c (m .1)))));
-}
+fewer : {l : List Entry} {c d : ℕ} {m : List listing.Node} → c ≤ d → Stores l d m → Stores l c (take c m)
+fewer {l} {c} {d} {m} h u = record { as-many = length-take-le c m (omega (arith, u .as-many, h)); holds = λ {k} {n} v. u .holds (at-take c v) }
+
+map-take : {A B : Type 0} (f : A → B) (n : ℕ) (l : List A) → take n (map f l) ≡ map f (take n l)
+map-take f zero l = refl
+map-take f (suc n) [] = refl
+map-take {B = B} f (suc n) (e ∷ l) = ap (λ (r : List B). f e ∷ r) (map-take f n l)
 
 module _ {D : Domain} {x g : ℕ} (r : Ready D x) {store s more t : List Node} {plan p q : List ℕ} {a b : Answer}
     (u : SearchDone D x g store s plan p a) (v : SearchDone D x g more t plan q b) (h : length store ≤ length more) where
@@ -84,14 +84,17 @@ module _ {D : Domain} {x g : ℕ} (r : Ready D x) {store s more t : List Node} {
   store-goes-on = (
     omega (arith, grow, ap (λ (o : Searched). o .count) (u .answer-is), ap (λ (o : Searched). o .count) (v .answer-is)),
     subst (λ (n : ℕ). take n t ≡ take n s) (ap (λ (o : Searched). o .count) (sym (u .answer-is)))
-        (all-meant-inj (take (u .says .count) t) (take (u .says .count) s) (stores-unique (step D) x (u .searches .is-listing .prefix) (fewer t grow larger) smaller)),
+        (sym (take-take n (v .says .count) t grow) ∙ ap (take n) (v .first-places) ∙ map-take nodeFor n (v .nodes) ∙ ap (map nodeFor) records ∙ sym (u .first-places)),
   )
     where
-      smaller : Stores (u .searches .listing) (u .says .count) (map meant (take (u .says .count) s))
-      smaller = subst (Stores (u .searches .listing) (u .says .count)) (sym (u .first-places)) (u .searches .store)
+      n : ℕ
+      n = u .says .count
 
-      larger : Stores (u .searches .listing) (v .says .count) (map meant (take (v .says .count) t))
-      larger = subst₂ (λ (l : List Entry) (n : List listing.Node). Stores l (v .says .count) n) same (sym (v .first-places)) (v .searches .store)
+      larger : Stores (u .searches .listing) (v .says .count) (v .nodes)
+      larger = subst (λ (l : List Entry). Stores l (v .says .count) (v .nodes)) same (v .searches .store)
+
+      records : take n (v .nodes) ≡ u .nodes
+      records = stores-unique (step D) x (u .searches .is-listing .prefix) (fewer grow larger) (u .searches .store)
 
   -- and the answer is the same, but for 13
   pub answer-stays : (a .verdict ≡ Refused 13) ⊎ ((b ≡ a) × (q ≡ p))

@@ -6,6 +6,7 @@ use Prim.Native.Nat.{ℕ}
 use lib.ListN.{take}
 use Rattle.meaning.specs.Runs.{Good}
 use Rattle.meaning.proofs.Meanings.{FirstGood}
+use Rattle.sets.specs.Words.{setOf}
 use Rattle.sheet.specs.Sheet.{domainIn}
 use Rattle.sheet.specs.Answers.{reading}
 use Rattle.sheet.specs.declared.Head.{Head}
@@ -32,8 +33,8 @@ module _ (l : List ℕ) {store s : List Node} {plan p : List ℕ} {a : Answer} (
       go (reading-is.Accepted h) e = record { head = h; accepted = e }
       go (reading-is.Refused f) e = absurd (ne (f .number) (sym (ap (λ (o : Answer). o .verdict) (u .refused e .answer-is))))
 
-  pub plan-tells : a .verdict ≡ Plan → (t : AcceptedAs l) × FirstGood (domainIn l) (t .head .initial) (t .head .goal) (take (a .length) p)
+  pub plan-tells : a .verdict ≡ Plan → (t : AcceptedAs l) × FirstGood (domainIn l) (setOf (t .head .initial)) (setOf (t .head .goal)) (take (a .length) p)
   plan-tells q = let t = no-refusal (λ n e. plan-not-refused (sym (e ∙ q))) in (t, found-is-first l (t .accepted) u q)
 
-  pub no-plan-tells : a .verdict ≡ NoPlan → (t : AcceptedAs l) × ((q : List ℕ) → ¬ Good (domainIn l) (t .head .initial) (t .head .goal) q)
+  pub no-plan-tells : a .verdict ≡ NoPlan → (t : AcceptedAs l) × ((q : List ℕ) → ¬ Good (domainIn l) (setOf (t .head .initial)) (setOf (t .head .goal)) q)
   no-plan-tells q = let t = no-refusal (λ n e. none-not-refused (sym (e ∙ q))) in (t, no-plan-is-good l (t .accepted) u q)

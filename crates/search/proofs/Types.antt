@@ -1,6 +1,7 @@
 -- The declared types as a walk takes them, and their fields that are read.
 use mathlib.Core.Path.{refl}
-use Rattle.walks.proofs.Steps.{tyInt, w64, vint, whole, Site, SeesAt, Value, struct-of, enum-of, field-of}
+use Rattle.walks.proofs.Steps.{whole, Site, Value, struct-of, enum-of, field-of}
+use Rattle.store.proofs.SetSteps.{SetIn, set-ty}
 use Rattle.sheet.proofs.Head as Head
 use Rattle.sheet.proofs.Head.Laws as HeadL
 use Rattle.sheet.proofs.Reading as Reading
@@ -15,8 +16,8 @@ abbrev pub answer-type : Value
 answer-type = struct-of Answer.the-type AnswerL.the-laws AnswerL.the-copy AnswerL.the-plain
 
 module _ {w : Site} where
-  abbrev pub initial-of : SeesAt w (whole Head.the-row) (tyInt w64) 16 (λ d. vint w64 (d .initial))
-  initial-of = field-of Head.the-type HeadL.the-laws 2 (tyInt w64) 16 refl
+  abbrev pub initial-of : SetIn w (whole Head.the-row) 16 (λ d. d .initial)
+  initial-of = field-of Head.the-type HeadL.the-laws 2 set-ty 16 refl
 
-  abbrev pub goal-of : SeesAt w (whole Head.the-row) (tyInt w64) 24 (λ d. vint w64 (d .goal))
-  goal-of = field-of Head.the-type HeadL.the-laws 3 (tyInt w64) 24 refl
+  abbrev pub goal-of : SetIn w (whole Head.the-row) 24 (λ d. d .goal)
+  goal-of = field-of Head.the-type HeadL.the-laws 3 set-ty 24 refl

@@ -1,13 +1,11 @@
--- The promise of a search leaves one answer, one store and one plan buffer: the records of `meaning` tell the store's records apart, the later places
--- and the rest of the plan buffer are as lent, and a reading is one of two.
+-- The promise of a search leaves one answer, one store and one plan buffer: the first places hold the values of the records of `meaning`, the later
+-- places and the rest of the plan buffer are as lent, and a reading is one of two.
 use mathlib.Core.Path.{_≡_, refl, sym, ap, ap₂, _∙_}
-use mathlib.Core.List.{List, [], _∷_, _++_, map, head-eq-of-cons-eq, tail-eq-of-cons-eq}
+use mathlib.Core.List.{List, _++_, map}
 use Prim.Native.Nat.{ℕ}
-use native.Mathlib.Omega.{arith}
 use lib.ListN.{length, take, drop, take-append-drop}
 use Rattle.meaning.proofs.Tests.{clash}
 use Rattle.meaning.specs.Domain.{Domain}
-use Rattle.meaning.specs.Listing as listing
 use Rattle.meaning.specs.Answers.{Searched, room}
 use Rattle.meaning.specs.Enumeration as enumeration
 use Rattle.meaning.specs.Computed as computed
@@ -17,7 +15,7 @@ use Rattle.sheet.specs.Answers.{reading}
 use Rattle.sheet.specs.declared.Reading.{Reading}
 use Rattle.sheet.specs.declared.Reading.the-variants as reading-is
 use Rattle.store.specs.declared.Node.{Node}
-use Rattle.store.specs.Nodes.{meant}
+use Rattle.store.specs.Nodes.{nodeFor}
 use Rattle.explore.specs.Ready.{Ready}
 use Rattle.search.specs.Done.{verdictOf, searchedOf, SearchDone, SheetSearched, SearchedHere}
 use Rattle.search.specs.declared.Verdict.{Verdict}
@@ -55,19 +53,6 @@ answer-inj a b p q e = λ i. record {
   length = ap (λ (r : Searched). r .plan-length) e i;
 }
 
-meant-inj : (n m : Node) → meant n ≡ meant m → n ≡ m
-meant-inj n m e = λ i. record {
-  set = ap (λ (k : listing.Node). k .set) e i;
-  parent = ap (λ (k : listing.Node). k .parent) e i;
-  command = ap (λ (k : listing.Node). k .command) e i;
-}
-
-pub all-meant-inj : (l m : List Node) → map meant l ≡ map meant m → l ≡ m
-all-meant-inj [] [] e = refl
-all-meant-inj [] (n ∷ m) e = absurd (omega (arith, ap length e))
-all-meant-inj (n ∷ l) [] e = absurd (omega (arith, ap length e))
-all-meant-inj (n ∷ l) (k ∷ m) e = λ i. meant-inj n k (head-eq-of-cons-eq e) i ∷ all-meant-inj l m (tail-eq-of-cons-eq e) i
-
 -- ---- the engine
 
 module _ {D : Domain} {x g : ℕ} (r : Ready D x) {store : List Node} {plan : List ℕ} where
@@ -85,8 +70,7 @@ module _ {D : Domain} {x g : ℕ} (r : Ready D x) {store : List Node} {plan : Li
       counts = ap (λ (o : Searched). o .count) (sym (same .0))
 
       firsts : take (u .says .count) s ≡ take (u .says .count) t
-      firsts = all-meant-inj (take (u .says .count) s) (take (u .says .count) t)
-          (u .first-places ∙ same .1 ∙ sym (v .first-places) ∙ ap (λ (n : ℕ). map meant (take n t)) counts)
+      firsts = u .first-places ∙ ap (map nodeFor) (same .1) ∙ sym (v .first-places) ∙ ap (λ (n : ℕ). take n t) counts
 
       rests : drop (u .says .count) s ≡ drop (u .says .count) t
       rests = u .later-places ∙ ap (λ (n : ℕ). drop n store) (sym counts) ∙ sym (v .later-places) ∙ ap (λ (n : ℕ). drop n t) counts

@@ -14,7 +14,7 @@ use Rattle.sheet.specs.declared.Head.{Head}
 use Rattle.sheet.specs.declared.Refusal.{Refusal}
 use Rattle.sheet.specs.declared.Reading.the-variants as reading-is
 use Rattle.store.specs.declared.Node.{Node}
-use Rattle.store.specs.Nodes.{nothing, meant}
+use Rattle.store.specs.Nodes.{nothing, nodeFor}
 use Rattle.search.specs.declared.Verdict.{Verdict}
 use Rattle.search.specs.declared.Verdict.the-variants.{Plan, NoPlan, Refused}
 use Rattle.search.specs.declared.Answer.{Answer}
@@ -38,7 +38,7 @@ pub record SearchDone (D : Domain) (x g : ℕ) (store store′ : List Node) (pla
   pub nodes : List listing.Node
   pub searches : Searches D x g (room (length store)) (length plan) says nodes
   pub answer-is : searchedOf a (says .written) ≡ says
-  pub first-places : map meant (take (says .count) store′) ≡ nodes
+  pub first-places : take (says .count) store′ ≡ map nodeFor nodes
   pub later-places : drop (says .count) store′ ≡ drop (says .count) store
   pub plan-is : plan′ ≡ says .written ++ drop (length (says .written)) plan
 

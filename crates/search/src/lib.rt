@@ -9,6 +9,7 @@ use sheet::Reading;
 use sheet::head_of;
 use sheet::read;
 use store::Node;
+use store::blank;
 use store::read_back;
 ghost use mathlib.Core.Path.{_≡_};
 ghost use Rattle.sets.specs.Words.{setOf};
@@ -129,10 +130,7 @@ pub fn search(sheet: &[u8], store: &mut [Node], plan: &mut [u8]) -> Answer
 pub fn search_here(sheet: &[u8], plan: &mut [u8]) -> Answer
     ensures { λ r. ⌜ SearchedHere 4096 (now (sheet .entry)) (now (plan .entry)) (now (plan .exit)) r ⌝ }
 {
-    let mut store = [Node {
-        set: 0,
-        parent: 0,
-        command: 0,
-    }; 4096];
+    let place = blank();
+    let mut store = [place; 4096];
     search(sheet, &mut store, plan)
 }

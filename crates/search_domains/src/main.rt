@@ -3,6 +3,7 @@
 use search::Answer;
 use search::Verdict;
 use search::search_here;
+use sets::of_word;
 use writer::Writing;
 ghost use Prim.Native.Nat.{_≤_, _<_};
 
@@ -150,8 +151,8 @@ fn write_first(d: Domain, sets: &[u64], total: usize, out: &mut [u8]) -> usize {
     match writer::write(
         d.states,
         d.commands,
-        d.initial,
-        d.goal,
+        of_word(d.initial),
+        of_word(d.goal),
         &sets[0..total],
         out,
     ) {

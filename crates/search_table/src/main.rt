@@ -3,6 +3,8 @@
 use search::Answer;
 use search::Verdict;
 use search::search;
+use sets::of_word;
+use sets::to_word;
 use store::Node;
 use store::node_at;
 ghost use Prim.Native.Nat.{_≤_};
@@ -53,7 +55,7 @@ fn say_answer(label: &[u8], answer: Answer, plan: &[u8]) {
 
 fn say_node(n: Node) {
     io::write_all(1, b",");
-    field(n.set);
+    field(to_word(n.set));
     field(n.parent as u64);
     field(wide(n.command));
 }
@@ -82,15 +84,22 @@ fn say_room(label: &[u8], sheet: &[u8], plan: &mut [u8], store: &mut [Node], roo
     say_store(&*store);
 }
 
+// What each place of the store holds when it is lent.
+fn lent() -> Node {
+    let set = of_word(7);
+    Node {
+        set,
+        parent: 7,
+        command: 7,
+    }
+}
+
 // Searches over the first places of a store of six.
 fn say_in(label: &[u8], sheet: &[u8], plan: &mut [u8], room: usize)
     requires { ⌜ room ≤ 6 ⌝ }
 {
-    let mut store = [Node {
-        set: 7,
-        parent: 7,
-        command: 7,
-    }; 6];
+    let place = lent();
+    let mut store = [place; 6];
     say_room(label, sheet, plan, &mut store, room);
 }
 
@@ -121,13 +130,13 @@ fn say_first(label: &[u8], bytes: &[u8], n: usize) {
 // The bytes of a sheet of two states, with two commands and with one.
 fn two(initial: u64, goal: u64, sets: [u64; 4]) -> [u8; 55] {
     let mut out = [0u8; 55];
-    writer::write(2, 2, initial, goal, &sets, &mut out);
+    writer::write(2, 2, of_word(initial), of_word(goal), &sets, &mut out);
     out
 }
 
 fn one(initial: u64, goal: u64, sets: [u64; 2]) -> [u8; 39] {
     let mut out = [0u8; 39];
-    writer::write(2, 1, initial, goal, &sets, &mut out);
+    writer::write(2, 1, of_word(initial), of_word(goal), &sets, &mut out);
     out
 }
 

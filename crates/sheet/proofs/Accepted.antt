@@ -6,8 +6,7 @@ use mathlib.Core.List.{List}
 use Prim.Native.Nat.{ℕ}
 use Rattle.numbers.specs.Bytes.{AreBytes}
 use Rattle.sheet.specs.Sheet.{Sheet, Valid, encode, sheetIn}
-use Rattle.sheet.specs.Refusals.{headOf}
-use Rattle.sheet.specs.Answers.{reading}
+use Rattle.sheet.specs.Answers.{headOf, reading}
 use Rattle.sheet.specs.declared.Head.{Head}
 use Rattle.sheet.specs.declared.Reading.the-variants.{Accepted}
 use Rattle.sheet.proofs.Accepts.{accepts-reading, reading-accepts}

@@ -3,9 +3,10 @@ use mathlib.Core.Path.{_≡_, refl}
 use mathlib.Core.List.{List, [], _∷_}
 use Prim.Native.Nat.{ℕ}
 use Rattle.numbers.specs.Bytes.{number, bytesOf, bytesOfEach}
+use Rattle.sets.specs.Words.{setFor}
 use Rattle.sheet.specs.Sheet.{sheetWith, encode, sheetIn}
-use Rattle.sheet.specs.Refusals.{verdict, headRows, setRows, headWith, readingRows}
-use Rattle.sheet.specs.Answers.{reading}
+use Rattle.sheet.specs.Refusals.{verdict, headRows, setRows, readingRows}
+use Rattle.sheet.specs.Answers.{headWith, reading}
 use Rattle.sheet.specs.declared.Reading.the-variants.{Accepted}
 
 -- a small set, in eight bytes
@@ -34,31 +35,31 @@ drift = sheet21 1 2 3 2
 
 -- ---- what the reader says
 
-pub reads-S : reading (S 1) ≡ Accepted (headWith 2 2 3 1)
+pub reads-S : reading (S 1) ≡ Accepted (headWith 2 2 (setFor 3) (setFor 1))
 unfolding reading verdict readingRows headRows setRows sheetIn number
 reads-S = refl
 
-pub reads-S-two : reading (S 2) ≡ Accepted (headWith 2 2 3 2)
+pub reads-S-two : reading (S 2) ≡ Accepted (headWith 2 2 (setFor 3) (setFor 2))
 unfolding reading verdict readingRows headRows setRows sheetIn number
 reads-S-two = refl
 
-pub reads-S-none : reading (S 0) ≡ Accepted (headWith 2 2 3 0)
+pub reads-S-none : reading (S 0) ≡ Accepted (headWith 2 2 (setFor 3) (setFor 0))
 unfolding reading verdict readingRows headRows setRows sheetIn number
 reads-S-none = refl
 
-pub reads-partial : reading partial ≡ Accepted (headWith 2 2 3 1)
+pub reads-partial : reading partial ≡ Accepted (headWith 2 2 (setFor 3) (setFor 1))
 unfolding reading verdict readingRows headRows setRows sheetIn number
 reads-partial = refl
 
-pub reads-swap : reading (swap 1 2) ≡ Accepted (headWith 2 1 1 2)
+pub reads-swap : reading (swap 1 2) ≡ Accepted (headWith 2 1 (setFor 1) (setFor 2))
 unfolding reading verdict readingRows headRows setRows sheetIn number
 reads-swap = refl
 
-pub reads-swap-all : reading (swap 3 1) ≡ Accepted (headWith 2 1 3 1)
+pub reads-swap-all : reading (swap 3 1) ≡ Accepted (headWith 2 1 (setFor 3) (setFor 1))
 unfolding reading verdict readingRows headRows setRows sheetIn number
 reads-swap-all = refl
 
-pub reads-drift : reading drift ≡ Accepted (headWith 2 1 1 2)
+pub reads-drift : reading drift ≡ Accepted (headWith 2 1 (setFor 1) (setFor 2))
 unfolding reading verdict readingRows headRows setRows sheetIn number
 reads-drift = refl
 

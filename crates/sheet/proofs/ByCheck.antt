@@ -4,8 +4,8 @@ use mathlib.Core.Path.{_≡_}
 use mathlib.Core.List.{List}
 use Prim.Native.Nat.{ℕ}
 use Rattle.sheet.specs.Sheet.{sheetIn}
-use Rattle.sheet.specs.Refusals.{verdict, headOf, readingRows}
-use Rattle.sheet.specs.Answers.{reading}
+use Rattle.sheet.specs.Refusals.{verdict, readingRows}
+use Rattle.sheet.specs.Answers.{headOf, reading}
 use Rattle.sheet.specs.declared.Reading.the-variants.{Accepted, Refused}
 use Rattle.sheet.specs.declared.Check.the-variants.{Passed, Failed}
 use Rattle.sheet.proofs.Rows.{onCheck, by-check}

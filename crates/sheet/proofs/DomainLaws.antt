@@ -10,6 +10,8 @@ use lib.Pow.{pow-pos}
 use lib.ListN.{length, getD}
 use borrow.Author.Tests.{le-ltb}
 use Rattle.meaning.specs.Domain.{Within, WellFormed, Start}
+use Rattle.sets.specs.Words.{setOf}
+use Rattle.sets.proofs.Values.{set-for}
 use Rattle.sheet.specs.Sheet.{Sheet, Valid, encode, sheetIn, domain, domainIn, lengthFor}
 use Rattle.sheet.specs.Answers.{reading}
 use Rattle.sheet.specs.declared.Head.{Head}
@@ -35,18 +37,18 @@ module _ (l : List ℕ) (h : Head) (e : reading l ≡ Accepted h) where
   unfolding domain
   domain-states = sym (ap (λ (g : Head). g .states) (reading-accepts l h e .head))
 
-  pub initial-start : Start (domainIn l) (h .initial)
+  pub initial-start : Start (domainIn l) (setOf (h .initial))
   unfolding domain
   initial-start =
       let t = reading-accepts l h e in
       let v = t .accepts .is-valid in
-      subst (λ (g : Head). Start (domainIn l) (g .initial)) (sym (t .head)) (record { within = v .initial-within; some-state = v .initial-some })
+      subst (λ (g : Head). Start (domainIn l) (setOf (g .initial))) (sym (t .head)) (subst (λ (x : ℕ). Start (domainIn l) x) (sym (set-for _)) (record { within = v .initial-within; some-state = v .initial-some }))
 
-  pub goal-within : Within (domainIn l) (h .goal)
+  pub goal-within : Within (domainIn l) (setOf (h .goal))
   unfolding domain
   goal-within =
       let t = reading-accepts l h e in
-      subst (λ (g : Head). Within (domainIn l) (g .goal)) (sym (t .head)) (t .accepts .is-valid .goal-within)
+      subst (λ (g : Head). Within (domainIn l) (setOf (g .goal))) (sym (t .head)) (subst (λ (x : ℕ). Within (domainIn l) x) (sym (set-for _)) (t .accepts .is-valid .goal-within))
 
 -- what a caller may rely on in an accepted sheet's head
 pub record HeadFits (l : List ℕ) (h : Head) : Type 0 where

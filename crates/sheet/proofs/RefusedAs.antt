@@ -10,10 +10,9 @@ use native.Mathlib.Omega.{arith}
 use lib.ListN.{getElem?}
 use Rattle.meaning.proofs.Tests.{clash}
 use Rattle.sheet.specs.Sheet.{Sheet, sheetIn, setsAt, setWidth}
-use Rattle.sheet.specs.Refusals.{Row, verdict, headOf, headRows, setRows, sheetRows, isUneven, stated, readingRows}
-use Rattle.sheet.specs.Answers.{reading}
+use Rattle.sheet.specs.Refusals.{Row, verdict, headRows, setRows, sheetRows, isUneven, stated, readingRows}
+use Rattle.sheet.specs.Answers.{headOf, reading}
 use Rattle.sheet.specs.declared.Refusal.{Refusal}
-use Rattle.sheet.specs.declared.Head.{Head}
 use Rattle.sheet.specs.declared.Reading.the-variants.{Accepted, Refused}
 use Rattle.sheet.specs.declared.Check.{Check}
 use Rattle.sheet.specs.declared.Check.the-variants.{Passed, Failed}
@@ -84,9 +83,9 @@ unfolding setRows
 each-set low high l h states at [] = tt
 each-set low high l h states at (x ∷ xs) = ((l, h), each-set low high l h states (at + setWidth) xs)
 
-each-head : (uneven : Bool) (h : Head) → Each 4 7 (headRows uneven h)
+each-head : (uneven : Bool) (states commands initial goal : ℕ) → Each 4 7 (headRows uneven states commands initial goal)
 unfolding headRows
-each-head uneven h = omega arith
+each-head uneven states commands initial goal = omega arith
 
 wider : (low high : ℕ) → low ≤ 4 → 7 ≤ high → (rs : List Row) → Each 4 7 rs → Each low high rs
 wider low high l h [] e = tt
@@ -94,7 +93,8 @@ wider low high l h (r ∷ rs) e = ((omega (arith, e .0 .0), omega (arith, e .0 .
 
 pub each-sheet : (low high : ℕ) → low ≤ 4 → 8 ≤ high → (uneven : Bool) (s : Sheet) → Each low high (sheetRows uneven s)
 each-sheet low high l h uneven s =
-    each-append low high (headRows uneven (headOf s)) (setRows (s .states) setsAt (s .sets)) (wider low high l (omega arith) (headRows uneven (headOf s)) (each-head uneven (headOf s))) (each-set low high (omega arith) h (s .states) setsAt (s .sets))
+    let rows : List Row = headRows uneven (s .states) (s .commands) (s .initial) (s .goal) in
+    each-append low high rows (setRows (s .states) setsAt (s .sets)) (wider low high l (omega arith) rows (each-head uneven (s .states) (s .commands) (s .initial) (s .goal))) (each-set low high (omega arith) h (s .states) setsAt (s .sets))
 
 pub each-gives : (low high : ℕ) (rs : List Row) (q : Refusal) → Each low high rs → verdict Failed Passed rs ≡ Failed q → Between low high q
 unfolding verdict
@@ -108,4 +108,4 @@ each-gives low high (r ∷ rs) q e f = go (r .holds) f (each-gives low high rs q
 pub reading-gives : (l : List ℕ) (q : Refusal) → reading l ≡ Refused q → Between 1 8 q
 unfolding readingRows
 reading-gives l q e =
-    each-gives 1 8 (readingRows l) q (omega arith, (omega arith, (omega arith, each-sheet 1 8 (omega arith) (omega arith) (isUneven (stated l) (headOf (sheetIn l))) (sheetIn l)))) (given-fails (readingRows l) q (refused-as l q .0 e))
+    each-gives 1 8 (readingRows l) q (omega arith, (omega arith, (omega arith, each-sheet 1 8 (omega arith) (omega arith) (isUneven (stated l) (sheetIn l .states) (sheetIn l .commands)) (sheetIn l)))) (given-fails (readingRows l) q (refused-as l q .0 e))

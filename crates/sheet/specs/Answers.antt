@@ -1,11 +1,19 @@
 -- What reading answers by the table of refusals, and the head of an answer.
 use mathlib.Core.List.{List}
 use Prim.Native.Nat.{ℕ}
-use Rattle.sheet.specs.Sheet.{sheetIn}
-use Rattle.sheet.specs.Refusals.{verdict, headWith, headOf, readingRows}
+use Rattle.sets.specs.Words.{Value, setFor}
+use Rattle.sheet.specs.Sheet.{Sheet, sheetIn}
+use Rattle.sheet.specs.Refusals.{verdict, readingRows}
 use Rattle.sheet.specs.declared.Head.{Head}
 use Rattle.sheet.specs.declared.Reading.{Reading}
 use Rattle.sheet.specs.declared.Reading.the-variants.{Accepted, Refused}
+
+-- the head of a sheet, as it is answered
+abbrev pub headWith : ℕ → ℕ → Value → Value → Head
+headWith states commands initial goal = record { states = states; commands = commands; initial = initial; goal = goal }
+
+abbrev pub headOf : Sheet → Head
+headOf s = headWith (s .states) (s .commands) (setFor (s .initial)) (setFor (s .goal))
 
 unfoldable pub reading : List ℕ → Reading
 reading l = verdict Refused (Accepted (headOf (sheetIn l))) (readingRows l)
@@ -13,4 +21,4 @@ reading l = verdict Refused (Accepted (headOf (sheetIn l))) (readingRows l)
 -- a refused sheet has no states and no commands in it
 abbrev pub shownHead : Reading → Head
 shownHead (Accepted h) = h
-shownHead (Refused r) = headWith 0 0 0 0
+shownHead (Refused r) = headWith 0 0 (setFor 0) (setFor 0)

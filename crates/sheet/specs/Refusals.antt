@@ -8,7 +8,6 @@ use lib.ListN.{length}
 use Rattle.numbers.specs.Bytes.{numberAt}
 use Rattle.sheet.specs.Sheet.{Sheet, sheetIn, setWidth, setsAt, statedFor}
 use Rattle.sheet.specs.declared.Refusal.{Refusal}
-use Rattle.sheet.specs.declared.Head.{Head}
 
 pub record Row : Type 0 where
   pub holds : Bool
@@ -39,34 +38,28 @@ setRows states at [] = []
 setRows states at (x ∷ xs) = row (missing states x) 8 at ∷ setRows states (at + setWidth) xs
 
 -- rows 4 to 7, and with the following sets 4 to 8. `uneven` is the condition of row 5, which reading and writing word each in its way.
-unfoldable pub headRows : Bool → Head → List Row
-headRows uneven h =
-    row (outside 1 64 (h .states)) 4 5 ∷
-    row (outside 1 32 (h .commands)) 4 6 ∷
+unfoldable pub headRows : Bool → ℕ → ℕ → ℕ → ℕ → List Row
+headRows uneven states commands initial goal =
+    row (outside 1 64 states) 4 5 ∷
+    row (outside 1 32 commands) 4 6 ∷
     row uneven 5 1 ∷
-    row (eqb (h .initial) 0 || missing (h .states) (h .initial)) 6 7 ∷
-    row (missing (h .states) (h .goal)) 7 15 ∷
+    row (eqb initial 0 || missing states initial) 6 7 ∷
+    row (missing states goal) 7 15 ∷
     []
 
-abbrev pub headWith : ℕ → ℕ → ℕ → ℕ → Head
-headWith states commands initial goal = record { states = states; commands = commands; initial = initial; goal = goal }
-
-abbrev pub headOf : Sheet → Head
-headOf s = headWith (s .states) (s .commands) (s .initial) (s .goal)
-
 abbrev pub sheetRows : Bool → Sheet → List Row
-sheetRows uneven s = headRows uneven (headOf s) ++ setRows (s .states) setsAt (s .sets)
+sheetRows uneven s = headRows uneven (s .states) (s .commands) (s .initial) (s .goal) ++ setRows (s .states) setsAt (s .sets)
 
 abbrev pub stated : List ℕ → ℕ
 stated l = numberAt 1 4 l
 
 -- row 5's condition by a stated length
-abbrev pub isUneven : ℕ → Head → Bool
-isUneven n h = not (eqb n (statedFor (h .states) (h .commands)))
+abbrev pub isUneven : ℕ → ℕ → ℕ → Bool
+isUneven n states commands = not (eqb n (statedFor states commands))
 
 unfoldable pub readingRows : List ℕ → List Row
 readingRows l =
     row (ltb (length l) 5) 1 (length l) ∷
     row (not (eqb (numberAt 0 1 l) 1)) 2 0 ∷
     row (not (eqb (5 + stated l) (length l)) || ltb (stated l) 18) 3 1 ∷
-    sheetRows (isUneven (stated l) (headOf (sheetIn l))) (sheetIn l)
+    sheetRows (isUneven (stated l) (sheetIn l .states) (sheetIn l .commands)) (sheetIn l)

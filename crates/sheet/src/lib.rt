@@ -4,14 +4,16 @@ use numbers::four;
 use numbers::wide;
 use sets::Set;
 ghost use mathlib.Core.Path.{_≡_};
+ghost use Rattle.sets.specs.Words.{setOf, setFor};
 ghost use mathlib.Core.Bool.{_||_};
 ghost use mathlib.Core.List.{map};
-ghost use Prim.Native.Nat.{_+_, _*_, _≤_};
+ghost use Prim.Native.Nat.{_+_, _*_, _≤_, _<_};
 ghost use lib.Dec.{eqb};
-ghost use lib.ListN.{length};
+ghost use lib.ListN.{length, getD};
+ghost use Rattle.numbers.specs.Bytes.{numberAt};
 ghost use Rattle.sheet.specs.Sheet.{setsAt, setWidth, from, setIn, sheetIn};
-ghost use Rattle.sheet.specs.Refusals.{missing, outside, isUneven, headWith, headOf, headRows, setRows, sheetRows, verdict};
-ghost use Rattle.sheet.specs.Answers.{reading, shownHead};
+ghost use Rattle.sheet.specs.Refusals.{missing, outside, isUneven, headRows, setRows, sheetRows, verdict};
+ghost use Rattle.sheet.specs.Answers.{headOf, reading, shownHead};
 
 // Where the parts of a sheet stand, and how many bytes a set has.
 pub const STATED_AT: usize = 1;
@@ -69,9 +71,25 @@ fn failed(number: u8, place: usize) -> Check
     Check::Failed(Refusal { number, place })
 }
 
+// The set whose bytes stand at `at`.
+pub fn set_in(bytes: &[u8], at: usize) -> Set
+    requires { ⌜ at + setWidth ≤ length (now bytes) ⌝ }
+    ensures { λ r. ⌜ r ≡ setFor (numberAt at setWidth (now (bytes .entry))) ⌝ }
+{
+    sets::of_word(eight(bytes, at))
+}
+
+// The set at index `i` of those that are given to be written, in words.
+pub fn given_set(given: &[u64], i: usize) -> Set
+    requires { ⌜ i < length (now given) ⌝ }
+    ensures { λ r. ⌜ r ≡ setFor (getD (now (given .entry)) i 0) ⌝ }
+{
+    sets::of_word(given[i])
+}
+
 // Does the set name a state at or above the state count?
 fn names_missing(states: usize, set: Set) -> bool
-    ensures { λ r. ⌜ r ≡ missing states set ⌝ }
+    ensures { λ r. ⌜ r ≡ missing states (setOf set) ⌝ }
 {
     !sets::within(set, states)
 }
@@ -84,9 +102,9 @@ fn is_outside(least: usize, most: usize, n: usize) -> bool
 
 // Is the set empty, or does it name a missing state?
 fn no_start(states: usize, set: Set) -> bool
-    ensures { λ r. ⌜ r ≡ (eqb set 0 || missing states set) ⌝ }
+    ensures { λ r. ⌜ r ≡ (eqb (setOf set) 0 || missing states (setOf set)) ⌝ }
 {
-    if set == 0 {
+    if sets::is_empty(set) {
         true
     } else {
         names_missing(states, set)
@@ -95,7 +113,7 @@ fn no_start(states: usize, set: Set) -> bool
 
 // Rows 4 to 7.
 pub fn check_head(stated: usize, states: usize, commands: usize, initial: Set, goal: Set) -> Check
-    ensures { λ r. ⌜ r ≡ verdict Check.Failed Check.Passed (headRows (isUneven stated (headWith states commands initial goal)) (headWith states commands initial goal)) ⌝ }
+    ensures { λ r. ⌜ r ≡ verdict Check.Failed Check.Passed (headRows (isUneven stated states commands) states commands (setOf initial) (setOf goal)) ⌝ }
 {
     if is_outside(1, 64, states) {
         return failed(4, STATES_AT);
@@ -123,7 +141,7 @@ fn check_sets(sheet: &[u8], states: usize, count: usize) -> Check
     let mut i = 0;
     while i < count {
         let at = SETS_AT + SET_WIDTH * i;
-        if names_missing(states, eight(sheet, at)) {
+        if names_missing(states, set_in(sheet, at)) {
             return failed(8, at);
         }
         i += 1;
@@ -135,12 +153,12 @@ fn check_sets(sheet: &[u8], states: usize, count: usize) -> Check
 fn read_stated(sheet: &[u8], stated: usize) -> Reading
     requires { ⌜ length (now sheet) ≡ 5 + stated ⌝ }
     requires { ⌜ 18 ≤ stated ⌝ }
-    ensures { λ r. ⌜ r ≡ verdict Reading.Refused (Reading.Accepted (headOf (sheetIn (now (sheet .entry))))) (sheetRows (isUneven stated (headOf (sheetIn (now (sheet .entry))))) (sheetIn (now (sheet .entry)))) ⌝ }
+    ensures { λ r. ⌜ r ≡ verdict Reading.Refused (Reading.Accepted (headOf (sheetIn (now (sheet .entry))))) (sheetRows (isUneven stated (sheetIn (now (sheet .entry)) .states) (sheetIn (now (sheet .entry)) .commands)) (sheetIn (now (sheet .entry)))) ⌝ }
 {
     let states = wide(sheet[STATES_AT]) as usize;
     let commands = wide(sheet[COMMANDS_AT]) as usize;
-    let initial = eight(sheet, INITIAL_AT);
-    let goal = eight(sheet, GOAL_AT);
+    let initial = set_in(sheet, INITIAL_AT);
+    let goal = set_in(sheet, GOAL_AT);
     match check_head(stated, states, commands, initial, goal) {
         Check::Failed(r) => Reading::Refused(r),
         Check::Passed => match check_sets(sheet, states, commands * states) {
@@ -185,19 +203,19 @@ pub fn head_of(r: Reading) -> Head
         Reading::Refused(_) => Head {
             states: 0,
             commands: 0,
-            initial: 0,
-            goal: 0,
+            initial: sets::empty(),
+            goal: sets::empty(),
         },
     }
 }
 
 // Row 8, over the following sets that are given.
-pub fn check_given(states: usize, given: &[Set]) -> Check
+pub fn check_given(states: usize, given: &[u64]) -> Check
     ensures { λ r. ⌜ r ≡ verdict Check.Failed Check.Passed (setRows states setsAt (now (given .entry))) ⌝ }
 {
     let mut i = 0;
     while i < given.len() {
-        if names_missing(states, given[i]) {
+        if names_missing(states, given_set(given, i)) {
             return failed(8, SETS_AT + SET_WIDTH * i);
         }
         i += 1;

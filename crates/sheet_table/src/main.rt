@@ -1,5 +1,7 @@
 // Reads and writes sheets at the boundaries of the table of refusals, and prints a line for each: the label, and then the answer. A line of
 // writing ends with KEPT where every byte that must stay is as it was.
+use sets::of_word;
+use sets::to_word;
 use sheet::Reading;
 use writer::Writing;
 
@@ -115,7 +117,7 @@ fn show_first(label: &[u8], bytes: &[u8], n: usize, command: usize, state: usize
         let s = &bytes[0..n];
         let shown = shown::following(s, command, state);
         let set = shown::set_at(s, shown::states(s), command, state);
-        say(label, b" SHOWN ", shown.len() as u64, set);
+        say(label, b" SHOWN ", shown.len() as u64, to_word(set));
         io::write_all(1, b"\n");
     }
 }
@@ -177,8 +179,8 @@ fn write_first(
             let r = writer::write(
                 states,
                 commands,
-                initial,
-                goal,
+                of_word(initial),
+                of_word(goal),
                 &given[0..count],
                 &mut out[0..room],
             );

@@ -1,12 +1,13 @@
 // What a sheet shows: its counts, and its following sets straight from the caller's bytes. A refused sheet has no states and no commands in it.
-use numbers::eight;
 use sets::Set;
 use sheet::Head;
 use sheet::SET_WIDTH;
 use sheet::SETS_AT;
 use sheet::head_of;
 use sheet::read;
+use sheet::set_in;
 ghost use mathlib.Core.Path.{_≡_};
+ghost use Rattle.sets.specs.Words.{setFor};
 ghost use lib.ListN.{length};
 ghost use Rattle.numbers.specs.Bytes.{number, IsPart};
 ghost use Rattle.sheet.specs.Answers.{reading, shownHead};
@@ -53,15 +54,15 @@ fn shown_from(sheet: &[u8], states: usize, command: usize, state: usize) -> usiz
     }
 }
 
-// The following set as a number, and 0 where it is missing.
+// The following set, and the empty set where it is missing.
 pub fn set_at(sheet: &[u8], states: usize, command: usize, state: usize) -> Set
-    ensures { λ r. ⌜ r ≡ number (shownAt (now (sheet .entry)) states command state) ⌝ }
+    ensures { λ r. ⌜ r ≡ setFor (number (shownAt (now (sheet .entry)) states command state)) ⌝ }
 {
     let set = shown_at(sheet, states, command, state);
     if set.len() == SET_WIDTH {
-        eight(set, 0)
+        set_in(set, 0)
     } else {
-        0
+        sets::empty()
     }
 }
 

@@ -6,6 +6,7 @@ use Prim.Native.Nat.{_<_, _≤_}
 use lib.ListN.{length, set, getD}
 use Rattle.walks.proofs.Steps.{tyInt, tyBool, tyPtr, tyUnit, w64, w32, w8, erased, mut, now, sliceTy, pNum, rUnit, rNum, pMutS, pShrS, ptr, result, Job, job-of}
 use Rattle.sets.specs.Words.{setOf}
+use Rattle.store.proofs.SetSteps.{set-kind}
 use Rattle.store.specs.Nodes.{nothing, node, Found}
 use Rattle.store.specs.Paths.{HasPath, LengthOf, WrittenBack, ReadBack}
 use Rattle.store.proofs.Node.{the-row}
@@ -19,14 +20,14 @@ node-at = job-of 1 0 (pShrS the-row 0 tt ∷ pNum w64 ∷ []) (result node-type)
     (λ κs a z e. (z ≡ getD (a .0 .now) (a .1 .0) nothing) ∷ [])
 
 abbrev pub put : Job
-put = job-of 1 0 (pMutS the-row 0 tt ∷ pNum w64 ∷ pNum w64 ∷ pNum w32 ∷ pNum w8 ∷ []) rUnit
+put = job-of 1 0 (pMutS the-row 0 tt ∷ pNum w64 ∷ set-kind ∷ pNum w32 ∷ pNum w8 ∷ []) rUnit
     (mir ∷ tyInt w64 ∷ tyPtr ∷ [])
     (λ κs a. (a .1 .0 < length (a .0 .now)) ∷ [])
     (λ κs a z e. (now (e .0) ≡ set (a .0 .now) (a .1 .0) (node (a .1 .1 .0) (a .1 .1 .1 .0) (a .1 .1 .1 .1 .0))) ∷ [])
 
 abbrev pub place-of : Job
-place-of = job-of 1 0 (pShrS the-row 0 tt ∷ pNum w64 ∷ pNum w64 ∷ []) (rNum w64)
-    (tyInt w64 ∷ mir ∷ tyBool ∷ [])
+place-of = job-of 1 0 (pShrS the-row 0 tt ∷ pNum w64 ∷ set-kind ∷ []) (rNum w64)
+    (tyInt w64 ∷ mir ∷ tyBool ∷ tyBool ∷ [])
     (λ κs a. (a .1 .0 ≤ length (a .0 .now)) ∷ [])
     (λ κs a z e. (Found (a .0 .now) (a .1 .0) (setOf (a .1 .1 .0)) z) ∷ [])
 

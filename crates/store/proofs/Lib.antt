@@ -1,3 +1,4 @@
+pub mod SetSteps
 pub mod PathLaws
 pub mod Types
 pub mod Jobs

@@ -1,6 +1,7 @@
 // The store of a search: a lent slice of records of set, parent and command. Only the first two functions touch a record; the others look a set up
 // and read a plan back.
 use sets::Set;
+use sets::same;
 ghost use mathlib.Core.Path.{_≡_};
 ghost use Prim.Native.Nat.{_<_, _≤_};
 ghost use lib.ListN.{length, set as set-at, getD};
@@ -14,6 +15,18 @@ pub struct Node {
     pub set: Set,
     pub parent: u32,
     pub command: u8,
+}
+
+// What a place holds before anything is stored there, in a store that is made here and not lent.
+pub fn blank() -> Node
+    ensures { λ r. ⌜ r ≡ nothing ⌝ }
+{
+    let set = sets::empty();
+    Node {
+        set,
+        parent: 0,
+        command: 0,
+    }
 }
 
 // The record at place `i`.
@@ -44,7 +57,7 @@ pub fn place_of(store: &[Node], count: usize, set: Set) -> usize
     let mut i = 0;
     while i < count {
         let n = node_at(store, i);
-        if n.set == set {
+        if same(n.set, set) {
             return i;
         }
         i += 1;

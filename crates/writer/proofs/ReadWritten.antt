@@ -10,10 +10,12 @@ use lib.ListN.{length, take, drop}
 use lib.Seq.{take-at}
 use borrow.Author.Tests.{le-ltb, ltb-false, eq-eqb, eqb-true, not-false}
 use Rattle.meaning.proofs.Tests.{clash}
+use Rattle.sets.specs.Words.{setOf}
+use Rattle.sets.proofs.Values.{set-for}
 use Rattle.numbers.specs.Bytes.{AreBytes}
 use Rattle.sheet.specs.Sheet.{Sheet, Valid, encode, sheetIn, sheetWith, lengthFor, domain, domainIn}
-use Rattle.sheet.specs.Refusals.{Row, verdict, headOf, sheetRows}
-use Rattle.sheet.specs.Answers.{reading}
+use Rattle.sheet.specs.Refusals.{Row, verdict, sheetRows}
+use Rattle.sheet.specs.Answers.{headOf, reading}
 use Rattle.writer.specs.Written.{writing, written, roomRow, writingRows}
 use Rattle.sheet.specs.declared.Head.{Head}
 use Rattle.sheet.specs.declared.Reading.the-variants.{Accepted}
@@ -112,7 +114,10 @@ read-written s out k e =
 
 -- the sheet with this head and the following sets that the bytes hold
 abbrev pub reread : Head → List ℕ → Sheet
-reread h l = sheetWith (h .states) (h .commands) (h .initial) (h .goal) (sheetIn l .sets)
+reread h l = sheetWith (h .states) (h .commands) (setOf (h .initial)) (setOf (h .goal)) (sheetIn l .sets)
+
+reread-own : (l : List ℕ) → reread (headOf (sheetIn l)) l ≡ sheetIn l
+reread-own l = let s : Sheet = sheetIn l in ap₂ (λ (x y : ℕ). sheetWith (s .states) (s .commands) x y (s .sets)) (set-for (s .initial)) (set-for (s .goal))
 
 pub record Rewrites (h : Head) (l out : List ℕ) : Type 0 where
   pub answer : writing (reread h l) (length out) ≡ Written (length l)
@@ -121,7 +126,7 @@ pub record Rewrites (h : Head) (l out : List ℕ) : Type 0 where
 pub rewritten : (l : List ℕ) → AreBytes l → (h : Head) → reading l ≡ Accepted h → (out : List ℕ) → length l ≤ length out → Rewrites h l out
 rewritten l b h e out room =
     let t = reading-accepts l h e in
-    let same : reread h l ≡ sheetIn l = ap (λ (g : Head). reread g l) (t .head) in
+    let same : reread h l ≡ sheetIn l = ap (λ (g : Head). reread g l) (t .head) ∙ reread-own l in
     let n : lengthFor (sheetIn l .states) (sheetIn l .commands) ≡ length l = sym (t .accepts .long) in
     let w : Writes (sheetIn l) (length out) = record { is-valid = t .accepts .is-valid; fits = omega (arith, n, room) } in
     record {

@@ -12,14 +12,14 @@ use lib.Seq.{sets, sets-eq}
 use borrow.Author.Tests.{lt-ltb, le-ltb, eq-eqb, ne-eqb, eqb-true, eqb-false}
 use Rattle.numbers.specs.Bytes.{bytesOfEach}
 use Rattle.sheet.specs.Sheet.{Sheet, headBytes, encode, setsAt, setWidth, lengthFor}
-use Rattle.sheet.specs.Refusals.{Row, verdict, headOf, headRows, setRows}
+use Rattle.sheet.specs.Refusals.{Row, verdict, headRows, setRows}
 use Rattle.writer.specs.Written.{writing, written, writingBy, writtenBy, roomRow, writingRows}
 use Rattle.sheet.specs.declared.Refusal.{Refusal}
 use Rattle.writer.specs.declared.Writing.the-variants.{Written, Refused}
 use Rattle.sheet.specs.declared.Check.{Check}
 use Rattle.sheet.specs.declared.Check.the-variants.{Passed, Failed}
 use Rattle.sheet.proofs.Rows.{onCheck, checked, by-check}
-use Rattle.sheet.proofs.ReadLaws.{headRowsBy}
+use Rattle.sheet.proofs.ReadLaws.{headRowsBy, checkBy}
 use Rattle.sheet.proofs.Fields.{field, headFields, laid-head, laid-sets, laid-sheet, length-encode}
 use Rattle.writer.proofs.Stores.{fields-stored}
 
@@ -33,7 +33,7 @@ even-length a b = go (eqb a b) refl
 
 -- the checks of the head and of the following sets of a sheet that is given
 abbrev pub headCheck : Sheet → Check
-headCheck s = verdict Failed Passed (headRowsBy (18 + setWidth * length (s .sets)) (headOf s))
+headCheck s = checkBy (18 + setWidth * length (s .sets)) (s .states) (s .commands) (s .initial) (s .goal)
 
 abbrev pub setsCheck : Sheet → Check
 setsCheck s = verdict Failed Passed (setRows (s .states) setsAt (s .sets))
@@ -47,9 +47,9 @@ module _ {A : Type 0} (refused : Refusal → A) (otherwise : A) (s : Sheet) (roo
   by-checks : verdict refused otherwise (writingRows s room) ≡ onCheck refused (onCheck refused byRoom (setsCheck s)) (headCheck s)
   unfolding writingRows
   by-checks =
-      ap (λ (b : Bool). verdict refused otherwise ((headRows (not b) (headOf s) ++ setRows (s .states) setsAt (s .sets)) ++ (roomRow s room ∷ []))) (even-length (length (s .sets)) (s .commands * s .states))
-      ∙ ap (λ (rs : List Row). verdict refused otherwise rs) (append-assoc (headRowsBy (18 + setWidth * length (s .sets)) (headOf s)) (setRows (s .states) setsAt (s .sets)) (roomRow s room ∷ []))
-      ∙ checked refused otherwise (headRowsBy (18 + setWidth * length (s .sets)) (headOf s)) (setRows (s .states) setsAt (s .sets) ++ (roomRow s room ∷ []))
+      ap (λ (b : Bool). verdict refused otherwise ((headRows (not b) (s .states) (s .commands) (s .initial) (s .goal) ++ setRows (s .states) setsAt (s .sets)) ++ (roomRow s room ∷ []))) (even-length (length (s .sets)) (s .commands * s .states))
+      ∙ ap (λ (rs : List Row). verdict refused otherwise rs) (append-assoc (headRowsBy (18 + setWidth * length (s .sets)) (s .states) (s .commands) (s .initial) (s .goal)) (setRows (s .states) setsAt (s .sets)) (roomRow s room ∷ []))
+      ∙ checked refused otherwise (headRowsBy (18 + setWidth * length (s .sets)) (s .states) (s .commands) (s .initial) (s .goal)) (setRows (s .states) setsAt (s .sets) ++ (roomRow s room ∷ []))
       ∙ ap (λ (a : A). onCheck refused a (headCheck s)) (checked refused otherwise (setRows (s .states) setsAt (s .sets)) (roomRow s room ∷ []))
 
   pub head-fails : (q : Refusal) → headCheck s ≡ Failed q → verdict refused otherwise (writingRows s room) ≡ refused q

@@ -15,12 +15,14 @@ use sheet::STATED_AT;
 use sheet::STATES_AT;
 use sheet::check_given;
 use sheet::check_head;
+use sheet::given_set;
 ghost use mathlib.Core.Path.{_≡_};
 ghost use mathlib.Core.List.{[], _∷_};
 ghost use Prim.Native.Nat.{_+_, _*_, _≤_};
 ghost use lib.ListN.{length};
 ghost use lib.Seq.{sets as stored};
-ghost use Rattle.numbers.specs.Bytes.{bytesOfEach};
+ghost use Rattle.sets.specs.Words.{setOf};
+ghost use Rattle.numbers.specs.Bytes.{bytesOf, bytesOfEach};
 ghost use Rattle.sheet.specs.Sheet.{setsAt, setWidth, sheetWith, headBytes};
 ghost use Rattle.writer.specs.Written.{roomRow, writingBy, writtenBy, Wrote};
 
@@ -29,11 +31,19 @@ pub enum Writing {
     Refused(Refusal),
 }
 
+// The bytes of a set.
+fn put_set(out: &mut [u8], at: usize, set: Set)
+    requires { ⌜ at + setWidth ≤ length (now out) ⌝ }
+    ensures { λ _. ⌜ now (out .exit) ≡ stored (now (out .entry)) at (bytesOf setWidth (setOf set)) ⌝ }
+{
+    put_eight(out, at, sets::to_word(set));
+}
+
 // All that comes before the following sets.
 fn put_head(out: &mut [u8], states: usize, commands: usize, initial: Set, goal: Set)
     requires { ⌜ setsAt ≤ length (now out) ⌝ }
     requires { ⌜ commands * states ≤ 2048 ⌝ }
-    ensures { λ _. ⌜ now (out .exit) ≡ stored (now (out .entry)) 0 (headBytes states commands initial goal) ⌝ }
+    ensures { λ _. ⌜ now (out .exit) ≡ stored (now (out .entry)) 0 (headBytes states commands (setOf initial) (setOf goal)) ⌝ }
 {
     put_one(out, 0, 1);
     put_four(
@@ -43,18 +53,18 @@ fn put_head(out: &mut [u8], states: usize, commands: usize, initial: Set, goal: 
     );
     put_one(out, STATES_AT, states as u64);
     put_one(out, COMMANDS_AT, commands as u64);
-    put_eight(out, INITIAL_AT, initial);
-    put_eight(out, GOAL_AT, goal);
+    put_set(out, INITIAL_AT, initial);
+    put_set(out, GOAL_AT, goal);
 }
 
 // The following sets.
-fn put_sets(out: &mut [u8], given: &[Set])
+fn put_sets(out: &mut [u8], given: &[u64])
     requires { ⌜ setsAt + setWidth * length (now given) ≤ length (now out) ⌝ }
     ensures { λ _. ⌜ now (out .exit) ≡ stored (now (out .entry)) setsAt (bytesOfEach setWidth (now (given .entry))) ⌝ }
 {
     let mut i = 0;
     while i < given.len() {
-        put_eight(out, SETS_AT + SET_WIDTH * i, given[i]);
+        put_set(out, SETS_AT + SET_WIDTH * i, given_set(given, i));
         i += 1;
     }
 }
@@ -65,13 +75,13 @@ fn put_sheet(
     commands: usize,
     initial: Set,
     goal: Set,
-    given: &[Set],
+    given: &[u64],
     out: &mut [u8],
 ) -> Writing
     requires { ⌜ length (now given) ≡ commands * states ⌝ }
     requires { ⌜ commands * states ≤ 2048 ⌝ }
-    ensures { λ r. ⌜ r ≡ writingBy (roomRow (sheetWith states commands initial goal (now (given .entry))) (length (now (out .entry))) ∷ []) (sheetWith states commands initial goal (now (given .entry))) ⌝ }
-    ensures { λ r. ⌜ now (out .exit) ≡ writtenBy (roomRow (sheetWith states commands initial goal (now (given .entry))) (length (now (out .entry))) ∷ []) (sheetWith states commands initial goal (now (given .entry))) (now (out .entry)) ⌝ }
+    ensures { λ r. ⌜ r ≡ writingBy (roomRow (sheetWith states commands (setOf initial) (setOf goal) (now (given .entry))) (length (now (out .entry))) ∷ []) (sheetWith states commands (setOf initial) (setOf goal) (now (given .entry))) ⌝ }
+    ensures { λ r. ⌜ now (out .exit) ≡ writtenBy (roomRow (sheetWith states commands (setOf initial) (setOf goal) (now (given .entry))) (length (now (out .entry))) ∷ []) (sheetWith states commands (setOf initial) (setOf goal) (now (given .entry))) (now (out .entry)) ⌝ }
 {
     let needed = SETS_AT + SET_WIDTH * given.len();
     if out.len() < needed {
@@ -85,16 +95,16 @@ fn put_sheet(
     Writing::Written(needed)
 }
 
-// Writes a sheet: how many bytes it has, or the refusal by the table, which changes no byte.
+// Writes a sheet, whose following sets are given in words: how many bytes it has, or the refusal by the table, which changes no byte.
 pub fn write(
     states: usize,
     commands: usize,
     initial: Set,
     goal: Set,
-    given: &[Set],
+    given: &[u64],
     out: &mut [u8],
 ) -> Writing
-    ensures { λ r. ⌜ Wrote (sheetWith states commands initial goal (now (given .entry))) (now (out .entry)) (now (out .exit)) r ⌝ }
+    ensures { λ r. ⌜ Wrote (sheetWith states commands (setOf initial) (setOf goal) (now (given .entry))) (now (out .entry)) (now (out .exit)) r ⌝ }
 {
     match check_head(
         SHORTEST + SET_WIDTH * given.len(),

@@ -1,7 +1,9 @@
 -- `explore::explore` meets its contract: a walk of its MIR, and what the walk asks.
 use Rattle.walks.proofs.Facts.{_≡_, refl, _∙_, List, [], _∷_, ℕ, _<_, _≤_, arith, lit<, length, eqb-true, eqb-false, not-true, not-false}
 use Rattle.walks.proofs.Steps.{w64, w8, eq, ne, field, named, erased, mut, Lfts, Shares, tablesOf, Cx, sInt, sBool, sUnit, lease, After, World, Callee, here, _$_, _then_, _free_, returned, skipped, joined, branches, begins, ends, forgets, n64, flag, fresh, over, same, at, part, lit, puts, does, gone, none, num, num-lit, num-top, calls, is, holds, value-room, val-arg, copies-value, ptr, kept, mut-len, mut-all, owed-len, lends, slices, backs, mut-arg, shr-arg, a-lent, site, Walked, Laid, meets, Cited, cites, begun, world, u64}
+use Rattle.store.proofs.SetSteps.{set-arg, a-set, set-room}
 use Rattle.store.specs.declared.Node.{Node}
+use Rattle.sets.specs.Words.{setOf}
 use Rattle.store.proofs.Types.{byte, node-type}
 use Rattle.store.proofs.Jobs as store-jobs
 use Rattle.store.proofs.put as put-fn
@@ -51,30 +53,30 @@ module _ (w : World) where
       joined (Has-room κs qs) (branches 9 flag refl (
       gone 9 (over sBool) free here (Has-room κs qs) $
       calls (turned bs) [] 0 (num-lit 2 tt (num-lit 0 tt none)) fresh tt refl then
-      gone 1 (value-room head-type) free gone 3 (over (sInt w64)) free gone 4 (over (sInt w64)) free gone 6 (over (sInt w64)) free returned tt) (gone 9 (over sBool) free skipped tt)) (
+      gone 1 (value-room head-type) free gone 3 set-room free gone 4 set-room free gone 6 (over (sInt w64)) free returned tt) (gone 9 (over sBool) free skipped tt)) (
       -- put(&mut *store, 0, start, 0, 255)
       begins 2 _ free lends (node-type .R) 5 11 1 2 (named 1) same fresh refl tt refl refl then
       slices (node-type .R) 11 12 2 (ptr (node-type .R) erased mut) same fresh (part 5 (field 1 ∷ []) (owed-len (node-type .R) (named 1) 1 2 (lease (κs .1 .0) (qs .1 .0))) refl) refl refl then
-      calls (put bs) (2 ∷ []) 10 (mut-arg (node-type .R) 0 tt 12 same (mut-all (node-type .R) erased 2) refl (num-lit 0 tt (num 3 n64 refl (num-lit 0 tt (num-top 1 tt (lit< tt) none))))) fresh (tt, tt) refl then
+      calls (put bs) (2 ∷ []) 10 (mut-arg (node-type .R) 0 tt 12 same (mut-all (node-type .R) erased 2) refl (num-lit 0 tt (set-arg 3 [] a-set refl (num-lit 0 tt (num-top 1 tt (lit< tt) none))))) fresh (tt, tt) refl then
       gone 10 (over sUnit) free ends 2 refl free backs (node-type .R) 12 5 1 2 (named 1) (lease (κs .1 .0) (qs .1 .0)) same same refl refl free forgets 2 refl free here (Has-room κs qs) $
       -- t = stored(start, goal, 1)
-      calls (stored bs) [] 7 (num 3 n64 refl (num 4 n64 refl (num-lit 1 tt none))) fresh tt refl then here (Has-t κs qs) $
+      calls (stored bs) [] 7 (set-arg 3 [] a-set refl (set-arg 4 [] a-set refl (num-lit 1 tt none))) fresh tt refl then here (Has-t κs qs) $
       does 9 sBool ne (part 7 (field 0 ∷ []) kind-of refl) (lit w8 3 tt) fresh refl (λ u. refl) (λ u. tt) then
       joined (Has-room κs qs) (branches 9 flag refl (
       gone 9 (over sBool) free
       copies-value turn-type 7 0 (holds turn-type) fresh refl refl then
-      gone 1 (value-room head-type) free gone 3 (over (sInt w64)) free gone 4 (over (sInt w64)) free gone 6 (over (sInt w64)) free gone 7 (value-room turn-type) free returned tt) (gone 9 (over sBool) free gone 7 (value-room turn-type) free skipped tt)) (
+      gone 1 (value-room head-type) free gone 3 set-room free gone 4 set-room free gone 6 (over (sInt w64)) free gone 7 (value-room turn-type) free returned tt) (gone 9 (over sBool) free gone 7 (value-room turn-type) free skipped tt)) (
       -- run(head, sheet, goal, store, room)
       begins 2 _ free lends (node-type .R) 5 13 1 2 (named 1) same fresh refl tt refl refl then
       slices (node-type .R) 13 14 2 (ptr (node-type .R) erased mut) same fresh (part 5 (field 1 ∷ []) (owed-len (node-type .R) (named 1) 1 2 (lease (κs .1 .0) (qs .1 .0))) refl) refl refl then
-      calls (run bs) (0 ∷ 2 ∷ []) 0 (val-arg head-type 1 [] (holds head-type) refl (shr-arg byte 0 tt 2 (a-lent byte (named 0) 0) refl (num 4 n64 refl (mut-arg (node-type .R) 1 tt 14 same (mut-all (node-type .R) erased 2) refl (num 6 n64 refl none))))) fresh (tt, (tt, tt)) refl then
+      calls (run bs) (0 ∷ 2 ∷ []) 0 (val-arg head-type 1 [] (holds head-type) refl (shr-arg byte 0 tt 2 (a-lent byte (named 0) 0) refl (set-arg 4 [] a-set refl (mut-arg (node-type .R) 1 tt 14 same (mut-all (node-type .R) erased 2) refl (num 6 n64 refl none))))) fresh (tt, (tt, tt)) refl then
       ends 2 refl free backs (node-type .R) 14 5 1 2 (named 1) (lease (κs .1 .0) (qs .1 .0)) same same refl refl free forgets 2 refl free
-      gone 1 (value-room head-type) free gone 3 (over (sInt w64)) free gone 4 (over (sInt w64)) free gone 6 (over (sInt w64)) free returned tt))
+      gone 1 (value-room head-type) free gone 3 set-room free gone 4 set-room free gone 6 (over (sInt w64)) free returned tt))
 
   laid : Laid job w this.Code.env this.Code.function walk
   laid κs qs a good pre bs =
       let l : List Node = a .1 .1 .1 .1 .0 .now in
-      let g : ℕ = a .1 .1 .1 .0 in (
+      let g : ℕ = setOf (a .1 .1 .1 .0) in (
         (λ _. tt),
         λ m.
             let room : ℕ = m .1 in
@@ -96,10 +98,10 @@ module _ (w : World) where
                             λ t. (
                               tt,
                               (
-                                (λ stop. ((tt, (refl, (tt, (tt, (kept (a .1 .1 .1 .1 .0) e, tt))))), explored-in (m .5) (started-ended pre g room l there pos (q .5) (t .5) (eqb-false (t .1 .kind) 3 (not-true _ stop))))),
+                                (λ stop. ((tt, (refl, (tt, (tt, (kept (a .1 .1 .1 .1 .0) e, tt))))), explored-in (m .5) (started-ended pre g room l there pos (a .1 .1 .0) refl (q .5) (t .5) (eqb-false (t .1 .kind) 3 (not-true _ stop))))),
                                 (λ on.
                                     let z : t .1 .kind ≡ 3 = eqb-true (t .1 .kind) 3 (not-false _ on) in
-                                    λ γ₂. (refl, ((λ _. started-asks pre g room l there pos (q .5) (t .5) most z), λ p. (refl, λ e₂. ((tt, (refl, (tt, (tt, (kept (a .1 .1 .1 .1 .0) (e₂ ∙ e), tt))))), explored-in (m .5) (started-ran pre g room l there pos (q .5) (t .5) most z (p .5))))))),
+                                    λ γ₂. (refl, ((λ _. started-asks pre g room l there pos (a .1 .1 .0) refl (q .5) (t .5) most z), λ p. (refl, λ e₂. ((tt, (refl, (tt, (tt, (kept (a .1 .1 .1 .1 .0) (e₂ ∙ e), tt))))), explored-in (m .5) (started-ran pre g room l there pos (a .1 .1 .0) refl (q .5) (t .5) most z (p .5))))))),
                               ),
                             ),
                           ),

@@ -1,10 +1,11 @@
 -- `explore::next_at` meets its contract: a walk of its MIR, and what the walk asks.
 use Rattle.walks.proofs.Facts.{refl, List, [], _∷_, ℕ, arith}
-use Rattle.walks.proofs.Steps.{w64, field, named, Lfts, Shares, tablesOf, Cx, sInt, sBool, sc-here, After, World, Callee, here, _$_, _then_, _free_, returned, skipped, joined, branches, n64, flag, fresh, over, gone, none, num, num-of, calls, is, holds, value-room, val-arg, shr-arg, a-lent, site, Walked, Laid, meets, Cited, cites, begun, world, u64}
+use Rattle.walks.proofs.Steps.{w64, field, named, Lfts, Shares, tablesOf, Cx, sInt, sBool, sc-here, After, World, Callee, here, _$_, _then_, _free_, returned, skipped, joined, branches, n64, flag, fresh, over, gone, none, num, calls, is, holds, value-room, val-arg, shr-arg, a-lent, site, Walked, Laid, meets, Cited, cites, begun, world, u64}
 use Rattle.meaning.specs.Domain.{Domain}
 use Rattle.follow.specs.Following.{domainBy}
 use Rattle.follow.proofs.sendable as sendable-fn
 use Rattle.follow.proofs.image as image-fn
+use Rattle.store.proofs.SetSteps.{set-arg, a-set, set-room, set-row}
 use Rattle.store.specs.declared.Node.{Node}
 use Rattle.store.proofs.Types.{byte, node-type, set-of}
 use Rattle.store.proofs.Jobs as store-jobs
@@ -45,7 +46,7 @@ module _ (w : World) where
     Has-b = After Has-n 10 (sc-here sBool)
 
     abbrev Has-y : Cx
-    Has-y = After Has-b 8 u64
+    Has-y = After Has-b 8 set-row
 
     abbrev Has-k : Cx
     Has-k = After Has-y 9 u64
@@ -53,13 +54,13 @@ module _ (w : World) where
   abbrev walk : Walked job w this.Code.env this.Code.function
   walk κs qs bs =
       calls (node-at bs) (1 ∷ []) 7 (shr-arg (node-type .R) 0 tt 3 (a-lent (node-type .R) (named 1) 1) refl (num 5 n64 refl none)) fresh (tt, tt) refl then here (Has-n κs qs) $
-      calls (sendable bs) (0 ∷ []) 10 (val-arg head-type 1 [] (holds head-type) refl (shr-arg byte 0 tt 2 (a-lent byte (named 0) 0) refl (num 6 n64 refl (num-of 7 (field 0 ∷ []) set-of refl none)))) fresh (tt, tt) refl then here (Has-b κs qs) $
+      calls (sendable bs) (0 ∷ []) 10 (val-arg head-type 1 [] (holds head-type) refl (shr-arg byte 0 tt 2 (a-lent byte (named 0) 0) refl (num 6 n64 refl (set-arg 7 (field 0 ∷ []) set-of refl none)))) fresh (tt, tt) refl then here (Has-b κs qs) $
       joined (Has-b κs qs) (branches 10 flag refl (
-      calls (image bs) (0 ∷ []) 8 (val-arg head-type 1 [] (holds head-type) refl (shr-arg byte 0 tt 2 (a-lent byte (named 0) 0) refl (num 6 n64 refl (num-of 7 (field 0 ∷ []) set-of refl none)))) fresh (tt, tt) refl then here (Has-y κs qs) $
-      calls (place-of bs) (1 ∷ []) 9 (shr-arg (node-type .R) 0 tt 3 (a-lent (node-type .R) (named 1) 1) refl (num 4 n64 refl (num 8 n64 refl none))) fresh (tt, tt) refl then here (Has-k κs qs) $
-      calls (looked-up bs) [] 0 (num 9 n64 refl (num 4 n64 refl (num 8 n64 refl none))) fresh tt refl then
+      calls (image bs) (0 ∷ []) 8 (val-arg head-type 1 [] (holds head-type) refl (shr-arg byte 0 tt 2 (a-lent byte (named 0) 0) refl (num 6 n64 refl (set-arg 7 (field 0 ∷ []) set-of refl none)))) fresh (tt, tt) refl then here (Has-y κs qs) $
+      calls (place-of bs) (1 ∷ []) 9 (shr-arg (node-type .R) 0 tt 3 (a-lent (node-type .R) (named 1) 1) refl (num 4 n64 refl (set-arg 8 [] a-set refl none))) fresh (tt, tt) refl then here (Has-k κs qs) $
+      calls (looked-up bs) [] 0 (num 9 n64 refl (num 4 n64 refl (set-arg 8 [] a-set refl none))) fresh tt refl then
       gone 1 (value-room head-type) free gone 4 (over (sInt w64)) free gone 5 (over (sInt w64)) free gone 6 (over (sInt w64)) free
-      gone 7 (value-room node-type) free gone 8 (over (sInt w64)) free gone 9 (over (sInt w64)) free gone 10 (over sBool) free returned tt) (skipped tt)) (
+      gone 7 (value-room node-type) free gone 8 set-room free gone 9 (over (sInt w64)) free gone 10 (over sBool) free returned tt) (skipped tt)) (
       calls (nothing-new bs) [] 0 none fresh tt refl then
       gone 1 (value-room head-type) free gone 4 (over (sInt w64)) free gone 5 (over (sInt w64)) free gone 6 (over (sInt w64)) free
       gone 7 (value-room node-type) free gone 10 (over sBool) free returned tt)

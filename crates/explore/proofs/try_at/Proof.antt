@@ -1,6 +1,7 @@
 -- `explore::try_at` meets its contract: a walk of its MIR, and what the walk asks.
 use Rattle.walks.proofs.Facts.{_≡_, refl, List, [], _∷_, ℕ, _<_, _≤_, arith, length, eqb-true, eqb-false}
-use Rattle.walks.proofs.Steps.{w64, w32, w8, add, eq, cast, unsigned, field, named, erased, mut, imm, Lfts, Shares, tablesOf, Cx, sInt, sBool, sUnit, lease, sc-here, After, World, Callee, here, _$_, _then_, _free_, returned, skipped, joined, branches, begins, ends, forgets, n64, n32, n8, flag, fresh, over, same, at, part, lit, puts, does, turns, gone, none, num, num-of, num-lit, calls, is, holds, value-room, val-arg, ptr, kept, mut-all, owed-len, lends, slices, backs, mut-arg, shr-arg, a-lent, shares, shared-len, slices-shared, slice-room, unshares, site, Walked, Laid, meets, Cited, cites, begun, world}
+use Rattle.walks.proofs.Steps.{w64, w32, w8, add, eq, cast, unsigned, field, named, erased, mut, imm, Lfts, Shares, tablesOf, Cx, sInt, sBool, sUnit, lease, sc-here, After, World, Callee, here, _$_, _then_, _free_, returned, skipped, joined, branches, begins, ends, forgets, n64, n32, n8, flag, fresh, over, same, at, part, lit, puts, does, turns, gone, none, num, num-lit, calls, is, holds, value-room, val-arg, ptr, kept, mut-all, owed-len, lends, slices, backs, mut-arg, shr-arg, a-lent, shares, shared-len, slices-shared, slice-room, unshares, site, Walked, Laid, meets, Cited, cites, begun, world}
+use Rattle.store.proofs.SetSteps.{set-arg, a-set, set-room}
 use Rattle.store.specs.declared.Node.{Node}
 use Rattle.store.proofs.Types.{byte, node-type}
 use Rattle.store.proofs.Jobs as store-jobs
@@ -51,20 +52,20 @@ module _ (w : World) where
       joined (Has-g κs qs) (branches 14 flag refl (
       gone 14 (over sBool) free here (Has-g κs qs) $
       calls (turned bs) [] 0 (num-lit 2 tt (num 6 n64 refl none)) fresh tt refl then
-      gone 1 (value-room head-type) free gone 3 (over (sInt w64)) free gone 5 (over (sInt w64)) free gone 6 (over (sInt w64)) free gone 7 (over (sInt w64)) free gone 8 (over (sInt w64)) free gone 9 (value-room next-type) free returned tt) (gone 14 (over sBool) free skipped tt)) (
+      gone 1 (value-room head-type) free gone 3 set-room free gone 5 (over (sInt w64)) free gone 6 (over (sInt w64)) free gone 7 (over (sInt w64)) free gone 8 (over (sInt w64)) free gone 9 (value-room next-type) free returned tt) (gone 14 (over sBool) free skipped tt)) (
       -- put(&mut *store, count, next.set, i as u32, command as u8)
       begins 2 _ free lends (node-type .R) 4 16 1 2 (named 1) same fresh refl tt refl refl then
       slices (node-type .R) 16 17 2 (ptr (node-type .R) erased mut) same fresh (part 4 (field 1 ∷ []) (owed-len (node-type .R) (named 1) 1 2 (lease (κs .1 .0) (qs .1 .0))) refl) refl refl then
       turns 18 (sInt w32) (cast unsigned unsigned w32) (at 7 n64 refl) fresh refl (λ u. refl) (λ u. tt) then
       turns 19 (sInt w8) (cast unsigned unsigned w8) (at 8 n64 refl) fresh refl (λ u. refl) (λ u. tt) then
-      calls (put bs) (2 ∷ []) 15 (mut-arg (node-type .R) 0 tt 17 same (mut-all (node-type .R) erased 2) refl (num 6 n64 refl (num-of 9 (field 1 ∷ []) next-set-of refl (num 18 n32 refl (num 19 n8 refl none))))) fresh (tt, tt) refl then
+      calls (put bs) (2 ∷ []) 15 (mut-arg (node-type .R) 0 tt 17 same (mut-all (node-type .R) erased 2) refl (num 6 n64 refl (set-arg 9 (field 1 ∷ []) next-set-of refl (num 18 n32 refl (num 19 n8 refl none))))) fresh (tt, tt) refl then
       gone 15 (over sUnit) free gone 18 (over (sInt w32)) free gone 19 (over (sInt w8)) free ends 2 refl free backs (node-type .R) 17 4 1 2 (named 1) (lease (κs .1 .0) (qs .1 .0)) same same refl refl free forgets 2 refl free here (Has-g κs qs) $
       -- stored(next.set, goal, count + 1)
       does 20 (sInt w64) (add unsigned) (at 6 n64 refl) (lit w64 1 tt) fresh refl (λ u. refl) (λ u. tt) then
-      calls (stored bs) [] 0 (num-of 9 (field 1 ∷ []) next-set-of refl (num 3 n64 refl (num 20 n64 refl none))) fresh tt refl then
-      gone 1 (value-room head-type) free gone 3 (over (sInt w64)) free gone 5 (over (sInt w64)) free gone 6 (over (sInt w64)) free gone 7 (over (sInt w64)) free gone 8 (over (sInt w64)) free gone 9 (value-room next-type) free gone 20 (over (sInt w64)) free returned tt)) (gone 13 (over sBool) free skipped tt)) (
+      calls (stored bs) [] 0 (set-arg 9 (field 1 ∷ []) next-set-of refl (set-arg 3 [] a-set refl (num 20 n64 refl none))) fresh tt refl then
+      gone 1 (value-room head-type) free gone 3 set-room free gone 5 (over (sInt w64)) free gone 6 (over (sInt w64)) free gone 7 (over (sInt w64)) free gone 8 (over (sInt w64)) free gone 9 (value-room next-type) free gone 20 (over (sInt w64)) free returned tt)) (gone 13 (over sBool) free skipped tt)) (
       calls (turned bs) [] 0 (num-lit 3 tt (num 6 n64 refl none)) fresh tt refl then
-      gone 1 (value-room head-type) free gone 3 (over (sInt w64)) free gone 5 (over (sInt w64)) free gone 6 (over (sInt w64)) free gone 7 (over (sInt w64)) free gone 8 (over (sInt w64)) free gone 9 (value-room next-type) free returned tt)
+      gone 1 (value-room head-type) free gone 3 set-room free gone 5 (over (sInt w64)) free gone 6 (over (sInt w64)) free gone 7 (over (sInt w64)) free gone 8 (over (sInt w64)) free gone 9 (value-room next-type) free returned tt)
 
   laid : Laid job w this.Code.env this.Code.function walk
   laid κs qs a good pre bs =

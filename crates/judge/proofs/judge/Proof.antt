@@ -1,6 +1,10 @@
 -- `judge::judge` meets its contract: the sheet's refusal, or the judgement by its head.
-use mathlib.Core.Path.{refl, sym, _∙_}
+use mathlib.Core.Path.{_≡_, sym, _∙_}
 use borrow.Author.Needs.{needs}
+use Rattle.sets.specs.Words.{Value}
+use Rattle.sheet.specs.declared.Refusal.{Refusal}
+use Rattle.judge.specs.declared.Verdict.the-variants.{Refused}
+use Rattle.judge.specs.declared.Judged.{Judged}
 use Rattle.judge.proofs.ByReading.{by-refusal, by-head}
 use Rattle.judge.proofs.judge.Statement.{statement}
 use Rattle.judge.proofs.judge.Tie as tie
@@ -17,11 +21,19 @@ enum-known-head c = search needs
 judge-by-requires : tie.Need-judge-by-requires
 judge-by-requires c κs = search needs
 
+empty-requires : tie.Need-empty-requires
+empty-requires c κs = search needs
+
+-- a refused sheet's answer, with its set
+with-set : (f : Refusal) {x y : Value} → x ≡ y → _≡_ {A = Judged} (record { verdict = Refused f; set = x; left = 0 }) (record { verdict = Refused f; set = y; left = 0 })
+with-set f e = λ i. record { verdict = Refused f; set = e i; left = 0 }
+
 returns : tie.Need-returns
 returns c =
-    let r = c .before .before .before in
+    let f = c .before .before in
+    let r = f .before .before in
     let a = r .before .before .before .args in
-    by-refusal (a .sheet .now) (a .plan .now) _ (sym (r .read .ensures) ∙ c .before .f .given .1) refl
+    by-refusal (a .sheet .now) (a .plan .now) _ (sym (r .read .ensures) ∙ f .f .given .1) (with-set (f .f .given .0 .0) (c .empty .ensures))
 
 returns-2 : tie.Need-returns-2
 returns-2 c =
@@ -32,4 +44,4 @@ returns-2 c =
 pub judge-spec : {M : Type 1} → statement M
 judge-spec =
     tie.close
-    (tie.spec read-requires enum-known-f enum-known-head judge-by-requires returns returns-2)
+    (tie.spec read-requires enum-known-f empty-requires enum-known-head judge-by-requires returns returns-2)

@@ -1,13 +1,15 @@
 -- `judge::judge_by` meets its contract: each return is one of the four cases of the judge's answer.
-use mathlib.Core.Path.{_≡_, sym, ap, subst}
+use mathlib.Core.Path.{_≡_, sym, ap, _∙_, subst}
 use Prim.Native.Nat.{ℕ}
 use native.Mathlib.Omega.{arith}
 use borrow.Author.Needs.{needs}
 use borrow.Author.Tests.{not-true, not-false}
 use lib.ListN.{length}
 use Rattle.meaning.specs.Answers as answers
-use Rattle.meaning.specs.Answers.{Judges, AllCommands}
+use Rattle.meaning.specs.Answers.{Judges, AllCommands, judged}
 use Rattle.meaning.proofs.JudgeLaws.{judges-no-command, judges-not-sendable, judges-outside, judges-inside}
+use Rattle.sets.specs.Words.{setOf}
+use Rattle.sets.proofs.Values.{stands-for}
 use Rattle.follow.specs.Following.{domainBy}
 use Rattle.judge.proofs.judge_by.Statement.{statement}
 use Rattle.judge.proofs.judge_by.Tie as tie
@@ -15,15 +17,19 @@ use Rattle.judge.proofs.judge_by.Tie as tie
 first-missing-requires : tie.Need-first-missing-requires
 first-missing-requires c κs = search needs
 
+empty-requires : tie.Need-empty-requires
+empty-requires c κs = search needs
+
 refused-requires : tie.Need-refused-requires
 refused-requires c κs = search needs
 
 returns : tie.Need-returns
 returns c =
-    let d = c .before .before in
+    let d = c .before .before .before in
     let a = d .before .before .before .args in
-    subst (Judges (domainBy (a .head) (a .sheet .now)) (a .head .initial) (a .head .goal) (a .plan .now)) (sym (c .refused .ensures))
-    (judges-no-command (domainBy (a .head) (a .sheet .now)) (a .head .initial) (a .head .goal) (a .plan .now) (d .first-missing .ensures .missing (c .before .if1 .taken)))
+    subst (Judges (domainBy (a .head) (a .sheet .now)) (setOf (a .head .initial)) (setOf (a .head .goal)) (a .plan .now))
+    (sym (c .refused .ensures ∙ ap (judged (answers.refused 10) (d .first-missing .result)) (stands-for (c .before .empty .ensures))))
+    (judges-no-command (domainBy (a .head) (a .sheet .now)) (setOf (a .head .initial)) (setOf (a .head .goal)) (a .plan .now) (d .first-missing .ensures .missing (c .before .before .if1 .taken)))
 
 walk-requires : tie.Need-walk-requires
 walk-requires c κs = search needs
@@ -42,8 +48,8 @@ returns-2 : tie.Need-returns-2
 returns-2 c =
     let w = c .before .before .before in
     let a = w .before .before .before .before .before .args in
-    subst (Judges (domainBy (a .head) (a .sheet .now)) (a .head .initial) (a .head .goal) (a .plan .now)) (sym (c .refused2 .ensures))
-    (judges-not-sendable (domainBy (a .head) (a .sheet .now)) (a .head .initial) (a .head .goal) (a .plan .now) (all-commands (w .before)) (w .walk .ensures .blocked (c .before .if2 .taken)))
+    subst (Judges (domainBy (a .head) (a .sheet .now)) (setOf (a .head .initial)) (setOf (a .head .goal)) (a .plan .now)) (sym (c .refused2 .ensures))
+    (judges-not-sendable (domainBy (a .head) (a .sheet .now)) (setOf (a .head .initial)) (setOf (a .head .goal)) (a .plan .now) (all-commands (w .before)) (w .walk .ensures .blocked (c .before .if2 .taken)))
 
 -- past the second test the walk came to the plan's end
 whole : (c : tie.Else2) → c .before .before .walk .result .at ≡ length (c .before .before .before .before .before .before .before .args .plan .now)
@@ -60,8 +66,8 @@ returns-3 c =
     let i = c .before .before in
     let w = i .before .before .before in
     let a = w .before .before .before .before .before .args in
-    subst (Judges (domainBy (a .head) (a .sheet .now)) (a .head .initial) (a .head .goal) (a .plan .now)) (sym (c .refused3 .ensures))
-    (judges-outside (domainBy (a .head) (a .sheet .now)) (a .head .initial) (a .head .goal) (a .plan .now) (all-commands (w .before))
+    subst (Judges (domainBy (a .head) (a .sheet .now)) (setOf (a .head .initial)) (setOf (a .head .goal)) (a .plan .now)) (sym (c .refused3 .ensures))
+    (judges-outside (domainBy (a .head) (a .sheet .now)) (setOf (a .head .initial)) (setOf (a .head .goal)) (a .plan .now) (all-commands (w .before))
     (w .walk .ensures .ended (whole (i .before))) (i .inside .ensures .if-false (not-true (i .inside .result) (c .before .if3 .taken))))
 
 ones-requires : tie.Need-ones-requires
@@ -72,9 +78,9 @@ returns-4 c =
     let i = c .before .before in
     let w = i .before .before .before in
     let a = w .before .before .before .before .before .args in
-    subst (Judges (domainBy (a .head) (a .sheet .now)) (a .head .initial) (a .head .goal) (a .plan .now))
-    (ap (λ (n : ℕ). let j : answers.Judged = record { verdict = answers.good; place = 0; set = w .walk .result .set; left = n } in j) (sym (c .ones .ensures)))
-    (judges-inside (domainBy (a .head) (a .sheet .now)) (a .head .initial) (a .head .goal) (a .plan .now) (all-commands (w .before))
+    subst (Judges (domainBy (a .head) (a .sheet .now)) (setOf (a .head .initial)) (setOf (a .head .goal)) (a .plan .now))
+    (ap (λ (n : ℕ). let j : answers.Judged = record { verdict = answers.good; place = 0; set = setOf (w .walk .result .set); left = n } in j) (sym (c .ones .ensures)))
+    (judges-inside (domainBy (a .head) (a .sheet .now)) (setOf (a .head .initial)) (setOf (a .head .goal)) (a .plan .now) (all-commands (w .before))
     (w .walk .ensures .ended (whole (i .before))) (i .inside .ensures .if-true (not-false (i .inside .result) (c .before .if3 .left))))
 
 pub judge-by-spec : {M : Type 1} → statement M
@@ -82,6 +88,7 @@ judge-by-spec =
     tie.close
     (tie.spec
     first-missing-requires
+    empty-requires
     refused-requires
     returns
     walk-requires

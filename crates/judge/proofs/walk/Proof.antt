@@ -6,13 +6,15 @@ use borrow.Author.Needs.{needs}
 use borrow.Author.Tests.{not-true, not-false}
 use lib.ListN.{length, take}
 use Rattle.meaning.specs.Walk.{step, Gives}
+use Rattle.sets.specs.Words.{setOf}
+use Rattle.sets.proofs.Values.{stands-for}
 use Rattle.follow.specs.Following.{domainBy}
 use Rattle.judge.proofs.Turns.{walk-starts, walk-goes-on, walk-blocked, walk-ends}
 use Rattle.judge.proofs.walk.Statement.{statement}
 use Rattle.judge.proofs.walk.Tie as tie
 
 abbrev Inv-loop : tie.InvT-loop
-Inv-loop head sheet plan set₀ at₀ set at = (at ≤ length plan) × Gives (step (domainBy head sheet)) (head .initial) (take at plan) set
+Inv-loop head sheet plan set₀ at₀ set at = (at ≤ length plan) × Gives (step (domainBy head sheet)) (setOf (head .initial)) (take at plan) (setOf set)
 
 abbrev μ-loop : tie.MeasureT-loop
 μ-loop head sheet plan set₀ at₀ set at = length plan - at
@@ -20,7 +22,7 @@ abbrev μ-loop : tie.MeasureT-loop
 loop-holds : tie.Need-loop-holds Inv-loop μ-loop
 loop-holds c =
     let a = c .before .before .args in
-    (search needs, walk-starts (domainBy (a .head) (a .sheet .now)) (a .head .initial) (a .plan .now))
+    (search needs, walk-starts (domainBy (a .head) (a .sheet .now)) (setOf (a .head .initial)) (a .plan .now))
 
 shared-slice-read-command : tie.Need-shared-slice-read-command Inv-loop μ-loop
 shared-slice-read-command c = search needs
@@ -35,7 +37,7 @@ returns : tie.Need-returns Inv-loop μ-loop
 returns c =
     let l = c .before .before .before .before in
     let a = l .before .before .before .args in
-    walk-blocked (domainBy (a .head) (a .sheet .now)) (a .head .initial) (a .plan .now) (c .before .before .before .loop-test .taken) (l .loop .inv .1)
+    walk-blocked (domainBy (a .head) (a .sheet .now)) (setOf (a .head .initial)) (a .plan .now) (c .before .before .before .loop-test .taken) (l .loop .inv .1)
     (sym (c .before .sendable .ensures) ∙ not-true (c .before .sendable .result) (c .if1 .taken))
 
 image-requires : tie.Need-image-requires Inv-loop μ-loop
@@ -52,16 +54,16 @@ loop-again c =
     let l = c .before .before .before .before .before in
     let a = l .before .before .before .args in (
       search needs,
-      walk-goes-on (domainBy (a .head) (a .sheet .now)) (a .head .initial) (a .plan .now) (c .before .before .before .before .loop-test .taken) (l .loop .inv .1)
+      walk-goes-on (domainBy (a .head) (a .sheet .now)) (setOf (a .head .initial)) (a .plan .now) (c .before .before .before .before .loop-test .taken) (l .loop .inv .1)
           (sym (c .before .before .sendable .ensures) ∙ not-false (c .before .before .sendable .result) (c .before .if1 .left))
-          (c .image .ensures),
+          (stands-for (c .image .ensures)),
     )
 
 returns-2 : tie.Need-returns-2 Inv-loop μ-loop
 returns-2 c =
     let a = c .before .before .before .before .args in
     let e : c .before .loop .at ≡ length (a .plan .now) = omega arith in
-    walk-ends (domainBy (a .head) (a .sheet .now)) (a .head .initial) (a .plan .now) e (c .before .loop .inv .1)
+    walk-ends (domainBy (a .head) (a .sheet .now)) (setOf (a .head .initial)) (a .plan .now) e (c .before .loop .inv .1)
 
 pub walk-spec : {M : Type 1} → statement M
 walk-spec =

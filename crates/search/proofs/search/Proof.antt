@@ -1,8 +1,9 @@
 -- `search::search` meets its contract: a walk of its MIR, and what the walk asks.
 use Rattle.walks.proofs.Facts.{_≡_, refl, sym, _∙_, false, List, [], _∷_, ℕ}
-use Rattle.walks.proofs.Steps.{field, named, erased, mut, Lfts, Shares, tablesOf, Cx, sBool, lease, sc-here, After, World, Callee, here, _$_, _then_, _free_, returned, skipped, joined, branches, begins, ends, forgets, flag, fresh, over, same, part, gone, none, num-of, calls, is, holds, value-room, val-arg, ptr, kept, mut-all, owed-len, lends, slices, backs, mut-arg, shr-arg, a-lent, site, Walked, Laid, meets, Cited, cites, begun, world}
+use Rattle.walks.proofs.Steps.{field, named, erased, mut, Lfts, Shares, tablesOf, Cx, sBool, lease, sc-here, After, World, Callee, here, _$_, _then_, _free_, returned, skipped, joined, branches, begins, ends, forgets, flag, fresh, over, same, part, gone, none, calls, is, holds, value-room, val-arg, ptr, kept, mut-all, owed-len, lends, slices, backs, mut-arg, shr-arg, a-lent, site, Walked, Laid, meets, Cited, cites, begun, world}
 use Rattle.sheet.proofs.read as read-fn
 use Rattle.sheet.proofs.head_of as head-fn
+use Rattle.store.proofs.SetSteps.{set-arg}
 use Rattle.store.proofs.Types.{byte, node-type}
 use Rattle.explore.proofs.Types.{head-type}
 use Rattle.search.specs.Endings.{isRefused}
@@ -54,7 +55,7 @@ module _ (w : World) where
       slices (node-type .R) 7 8 3 (ptr (node-type .R) erased mut) same fresh (part 2 (field 1 ∷ []) (owed-len (node-type .R) (named 1) 1 3 (lease (κs .1 .0) (qs .1 .0))) refl) refl refl then
       begins 4 _ free lends byte 3 9 2 4 (named 2) same fresh refl tt refl refl then
       slices byte 9 10 4 (ptr byte erased mut) same fresh (part 3 (field 1 ∷ []) (owed-len byte (named 2) 2 4 (lease (κs .1 .1 .0) (qs .1 .1 .0))) refl) refl refl then
-      calls (search-from bs) (0 ∷ 3 ∷ 4 ∷ []) 0 (val-arg head-type 5 [] (holds head-type) refl (shr-arg byte 0 tt 1 (a-lent byte (named 0) 0) refl (num-of 5 (field 2 ∷ []) initial-of refl (num-of 5 (field 3 ∷ []) goal-of refl (mut-arg (node-type .R) 1 tt 8 same (mut-all (node-type .R) erased 3) refl (mut-arg byte 2 tt 10 same (mut-all byte erased 4) refl none)))))) fresh (tt, (tt, (tt, tt))) refl then
+      calls (search-from bs) (0 ∷ 3 ∷ 4 ∷ []) 0 (val-arg head-type 5 [] (holds head-type) refl (shr-arg byte 0 tt 1 (a-lent byte (named 0) 0) refl (set-arg 5 (field 2 ∷ []) initial-of refl (set-arg 5 (field 3 ∷ []) goal-of refl (mut-arg (node-type .R) 1 tt 8 same (mut-all (node-type .R) erased 3) refl (mut-arg byte 2 tt 10 same (mut-all byte erased 4) refl none)))))) fresh (tt, (tt, (tt, tt))) refl then
       ends 4 refl free backs byte 10 3 2 4 (named 2) (lease (κs .1 .1 .0) (qs .1 .1 .0)) same same refl refl free forgets 4 refl free
       ends 3 refl free backs (node-type .R) 8 2 1 3 (named 1) (lease (κs .1 .0) (qs .1 .0)) same same refl refl free forgets 3 refl free
       gone 5 (value-room head-type) free returned tt)

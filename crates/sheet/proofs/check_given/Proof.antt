@@ -1,12 +1,13 @@
 -- `sheet::check_given` meets its contract. The loop's invariant: the answer is the answer by the following sets from place i on. The measure is how many are left.
-use mathlib.Core.Path.{_≡_, refl, sym, _∙_}
-use Prim.Native.Nat.{_-_, _≤_}
+use mathlib.Core.Path.{_≡_, refl, sym, ap, _∙_}
+use Prim.Native.Nat.{ℕ, _-_, _≤_}
 use native.Mathlib.Omega.{arith}
 use denote.Ref.{now}
-use lib.ListN.{length}
+use lib.ListN.{length, getD}
 use borrow.Author.Needs.{needs}
+use Rattle.sets.proofs.Values.{stands-for}
 use Rattle.sheet.specs.Sheet.{setsAt}
-use Rattle.sheet.specs.Refusals.{verdict, setRows}
+use Rattle.sheet.specs.Refusals.{verdict, setRows, missing}
 use Rattle.sheet.specs.declared.Check.the-variants.{Passed, Failed}
 use Rattle.sheet.proofs.Rows.{rest, set-fails, set-passes, set-ends}
 use Rattle.sheet.proofs.check_given.Statement.{statement}
@@ -21,11 +22,12 @@ abbrev μ-loop : tie.MeasureT-loop
 loop-holds : tie.Need-loop-holds Inv-loop μ-loop
 loop-holds c = (omega arith, refl)
 
-mul-names-missing : tie.Need-mul-names-missing Inv-loop μ-loop
-mul-names-missing c = search needs
+given-set-requires : tie.Need-given-set-requires Inv-loop μ-loop
+given-set-requires c κs = search needs
 
-shared-slice-read-names-missing : tie.Need-shared-slice-read-names-missing Inv-loop μ-loop
-shared-slice-read-names-missing c = search needs
+-- what the test says of the set there
+tested : (c : tie.After-names-missing Inv-loop μ-loop) → missing (c .before .before .before .before .before .args .states) (getD (now (c .before .before .before .before .before .args .given)) (c .before .before .before .loop .i) 0) ≡ c .names-missing .result
+tested c = ap (λ (x : ℕ). missing (c .before .before .before .before .before .args .states) x) (sym (stands-for (c .before .given-set .ensures))) ∙ sym (c .names-missing .ensures)
 
 names-missing-requires : tie.Need-names-missing-requires Inv-loop μ-loop
 names-missing-requires c κs = search needs
@@ -43,7 +45,7 @@ returns : tie.Need-returns Inv-loop μ-loop
 returns c =
     let t = c .before .before .before .before in
     let a = t .before .before .before .args in
-    c .failed .ensures ∙ sym (t .before .loop .inv .1 ∙ set-fails Failed Passed (a .states) (now (a .given)) (t .before .loop .i) (t .loop-test .taken) (sym (c .before .before .names-missing .ensures) ∙ c .before .if1 .taken))
+    c .failed .ensures ∙ sym (t .before .loop .inv .1 ∙ set-fails Failed Passed (a .states) (now (a .given)) (t .before .loop .i) (t .loop-test .taken) (tested (c .before .before) ∙ c .before .if1 .taken))
 
 add-i : tie.Need-add-i Inv-loop μ-loop
 add-i c = omega arith
@@ -55,7 +57,7 @@ loop-again : tie.Need-loop-again Inv-loop μ-loop
 loop-again c =
     let t = c .before .before .before in
     let a = t .before .before .before .args in
-    (omega arith, t .before .loop .inv .1 ∙ set-passes Failed Passed (a .states) (now (a .given)) (t .before .loop .i) (t .loop-test .taken) (sym (c .before .names-missing .ensures) ∙ c .if1 .left))
+    (omega arith, t .before .loop .inv .1 ∙ set-passes Failed Passed (a .states) (now (a .given)) (t .before .loop .i) (t .loop-test .taken) (tested (c .before) ∙ c .if1 .left))
 
 returns-2 : tie.Need-returns-2 Inv-loop μ-loop
 returns-2 c =
@@ -69,8 +71,7 @@ check-given-spec =
     Inv-loop
     μ-loop
     loop-holds
-    mul-names-missing
-    shared-slice-read-names-missing
+    given-set-requires
     names-missing-requires
     mul-failed
     add-failed

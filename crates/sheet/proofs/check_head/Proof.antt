@@ -5,6 +5,7 @@ use Prim.Native.Nat.{_*_, _≤_}
 use native.Mathlib.Omega.{arith}
 use lib.Dec.{eqb}
 use borrow.Author.Tests.{eq-eqb, ne-eqb}
+use Rattle.sets.specs.Words.{setOf}
 use Rattle.sheet.specs.Refusals.{verdict, headRows, outside, missing}
 use Rattle.sheet.proofs.Rows.{product, most}
 use borrow.Author.Needs.{needs}
@@ -17,7 +18,7 @@ states-right c = sym (c .before .is-outside .ensures) ∙ c .if1 .left
 commands-right : (c : tie.Else2) → outside 1 32 (c .before .before .before .before .args .commands) ≡ false
 commands-right c = sym (c .before .is-outside2 .ensures) ∙ c .if2 .left
 
-initial-right : (c : tie.Else4) → (eqb (c .before .before .before .before .before .before .before .args .initial) 0 || missing (c .before .before .before .before .before .before .before .args .states) (c .before .before .before .before .before .before .before .args .initial)) ≡ false
+initial-right : (c : tie.Else4) → (eqb (setOf (c .before .before .before .before .before .before .before .args .initial)) 0 || missing (c .before .before .before .before .before .before .before .args .states) (setOf (c .before .before .before .before .before .before .before .args .initial))) ≡ false
 initial-right c = sym (c .before .no-start .ensures) ∙ c .if4 .left
 
 counted : (c : tie.Else2) → c .before .before .before .before .args .commands * c .before .before .before .before .args .states ≤ 2048

@@ -6,6 +6,7 @@ use native.Mathlib.Omega.{arith}
 use denote.Ref.{now}
 use lib.ListN.{length, getD}
 use borrow.Author.Needs.{needs}
+use Rattle.sets.proofs.Values.{stands-for}
 use Rattle.sheet.specs.Sheet.{setsAt, setIn, from}
 use Rattle.sheet.specs.Refusals.{verdict, setRows, missing}
 use Rattle.sheet.specs.declared.Check.the-variants.{Passed, Failed}
@@ -34,7 +35,7 @@ tested : (c : tie.After-names-missing Inv-loop μ-loop) → missing (States (c .
 tested c =
     let t = c .before .before in
     let a = t .before .before .before .args in
-    ap (λ (x : ℕ). missing (a .states) x) (getD-from-0 (setIn (now (a .sheet))) (a .count) (t .before .loop .i) (t .loop-test .taken) ∙ sym (c .before .eight .ensures))
+    ap (λ (x : ℕ). missing (a .states) x) (getD-from-0 (setIn (now (a .sheet))) (a .count) (t .before .loop .i) (t .loop-test .taken) ∙ sym (stands-for (c .before .set-in .ensures)))
     ∙ sym (c .names-missing .ensures)
 
 loop-holds : tie.Need-loop-holds Inv-loop μ-loop
@@ -46,8 +47,8 @@ mul-at c = omega arith
 add-at : tie.Need-add-at Inv-loop μ-loop
 add-at c = omega arith
 
-eight-requires : tie.Need-eight-requires Inv-loop μ-loop
-eight-requires c κs = omega arith
+set-in-requires : tie.Need-set-in-requires Inv-loop μ-loop
+set-in-requires c κs = omega arith
 
 names-missing-requires : tie.Need-names-missing-requires Inv-loop μ-loop
 names-missing-requires c κs = search needs
@@ -85,7 +86,7 @@ check-sets-spec =
     loop-holds
     mul-at
     add-at
-    eight-requires
+    set-in-requires
     names-missing-requires
     failed-requires
     returns

@@ -6,14 +6,14 @@ use native.Mathlib.Nat.{mul-le-mul}
 use native.Mathlib.Omega.{arith}
 use denote.Ref.{now}
 use Rattle.sheet.specs.Sheet.{sheetIn}
-use Rattle.sheet.specs.Refusals.{verdict, headOf, headWith}
+use Rattle.sheet.specs.Answers.{headOf, headWith}
 use Rattle.sheet.specs.declared.Head.{Head}
 use Rattle.sheet.specs.declared.Check.{Check}
-use Rattle.sheet.specs.declared.Check.the-variants.{Passed, Failed}
+use Rattle.sheet.specs.declared.Check.the-variants.{Passed}
 use Rattle.sheet.specs.declared.Reading.the-variants.{Accepted, Refused}
 use Rattle.numbers.proofs.Numbers.{numberAt-one}
 use Rattle.sheet.proofs.Rows.{onCheck}
-use Rattle.sheet.proofs.ReadLaws.{headRowsBy, answerBy, answerBySets, by-head, by-sets, head-even}
+use Rattle.sheet.proofs.ReadLaws.{checkOf, answerBy, answerBySets, by-head, by-sets, head-even}
 use borrow.Author.Needs.{needs}
 use Rattle.sheet.proofs.read_stated.Statement.{statement}
 use Rattle.sheet.proofs.read_stated.Tie as tie
@@ -26,21 +26,21 @@ abbrev N : tie.After-check-head → ℕ
 N c = c .before .before .before .before .before .before .before .before .args .stated
 
 abbrev H : tie.After-check-head → Head
-H c = headWith (c .before .before .before .before .before .wide .result) (c .before .before .before .wide2 .result) (c .before .before .eight .result) (c .before .eight2 .result)
+H c = headWith (c .before .before .before .before .before .wide .result) (c .before .before .before .wide2 .result) (c .before .before .set-in .result) (c .before .set-in2 .result)
 
 same : (c : tie.After-check-head) → H c ≡ headOf (sheetIn (L c))
 unfolding sheetIn
 same c = λ i. record {
   states = (c .before .before .before .before .before .wide .ensures .0 ∙ sym (numberAt-one 5 (L c) (omega arith))) i;
   commands = (c .before .before .before .wide2 .ensures .0 ∙ sym (numberAt-one 6 (L c) (omega arith))) i;
-  initial = (c .before .before .eight .ensures) i;
-  goal = (c .before .eight2 .ensures) i;
+  initial = (c .before .before .set-in .ensures) i;
+  goal = (c .before .set-in2 .ensures) i;
 }
 
 bytes : (c : tie.After-check-head) → c .before .before .before .wide2 .result * c .before .before .before .before .before .wide .result ≤ 255 * 255
 bytes c = mul-le-mul {n₂ = 255} {m₂ = 255} (omega arith) (omega arith)
 
-head-passed : (c : tie.After-enum-told) → verdict Failed Passed (headRowsBy (N (c .before .before)) (H (c .before .before))) ≡ Passed
+head-passed : (c : tie.After-enum-told) → checkOf (N (c .before .before)) (H (c .before .before)) ≡ Passed
 head-passed c = sym (c .before .before .check-head .ensures) ∙ c .enum-told .given .1
 
 -- where the head passed
@@ -61,11 +61,11 @@ shared-slice-read-wide-2 c = search needs
 wide-requires-2 : tie.Need-wide-requires-2
 wide-requires-2 c κs = search needs
 
-eight-requires : tie.Need-eight-requires
-eight-requires c κs = search needs
+set-in-requires : tie.Need-set-in-requires
+set-in-requires c κs = search needs
 
-eight-requires-2 : tie.Need-eight-requires-2
-eight-requires-2 c κs = search needs
+set-in-requires-2 : tie.Need-set-in-requires-2
+set-in-requires-2 c κs = search needs
 
 check-head-requires : tie.Need-check-head-requires
 check-head-requires c κs = search needs
@@ -81,7 +81,7 @@ mul-check-sets c = omega (arith, bytes (c .before .before))
 
 check-sets-requires : tie.Need-check-sets-requires
 check-sets-requires c κs =
-    omega (arith, head-even (N (c .before .before)) (H (c .before .before)) (head-passed c))
+    omega (arith, head-even (N (c .before .before)) (H (c .before .before) .states) (H (c .before .before) .commands) _ _ (head-passed c))
 
 enum-known-r-2 : tie.Need-enum-known-r-2
 enum-known-r-2 c = search needs
@@ -114,8 +114,8 @@ read-stated-spec =
     wide-requires
     shared-slice-read-wide-2
     wide-requires-2
-    eight-requires
-    eight-requires-2
+    set-in-requires
+    set-in-requires-2
     check-head-requires
     enum-known-r
     enum-told

@@ -5,6 +5,7 @@ use Prim.Native.Nat.{ℕ}
 use denote.Ref.{now}
 use lib.Seq.{sets}
 use lib.ListN.{take}
+use Rattle.sets.specs.Words.{setOf}
 use Rattle.sheet.specs.Sheet.{setWidth, statedFor}
 use Rattle.sheet.proofs.Fields.{Field, field, laid, headFields, laid-head}
 use Rattle.writer.proofs.Stores.{laid-one, field-stored}
@@ -17,7 +18,7 @@ abbrev O : tie.Start → List ℕ
 O c = now (c .args .out)
 
 abbrev F : tie.Start → List Field
-F c = headFields (c .args .states) (c .args .commands) (c .args .initial) (c .args .goal)
+F c = headFields (c .args .states) (c .args .commands) (setOf (c .args .initial)) (setOf (c .args .goal))
 
 one : (c : tie.After-put-one) → c .put-one .last .0 ≡ sets (O (c .before .before .before)) 0 (laid (take 1 (F (c .before .before .before))))
 one c = c .put-one .ensures ∙ ap (λ (b : List ℕ). sets (O (c .before .before .before)) 0 b) (sym (laid-one (field 1 1)))
@@ -40,17 +41,17 @@ four c =
     let s = t .before .before .before .before .before .before .before .before .before .before .before in
     c .put-one3 .ensures ∙ field-stored (O s) 0 (take 3 (F s)) (field 1 (s .args .commands)) (three t)
 
-five : (c : tie.After-put-eight) → c .put-eight .last .0 ≡ sets (O (c .before .before .before .before .before .before .before .before .before .before .before .before .before .before .before .before .before .before .before)) 0 (laid (take 5 (F (c .before .before .before .before .before .before .before .before .before .before .before .before .before .before .before .before .before .before .before))))
+five : (c : tie.After-put-set) → c .put-set .last .0 ≡ sets (O (c .before .before .before .before .before .before .before .before .before .before .before .before .before .before .before .before .before .before .before)) 0 (laid (take 5 (F (c .before .before .before .before .before .before .before .before .before .before .before .before .before .before .before .before .before .before .before))))
 five c =
     let t = c .before .before .before .before in
     let s = t .before .before .before .before .before .before .before .before .before .before .before .before .before .before .before in
-    c .put-eight .ensures ∙ field-stored (O s) 0 (take 4 (F s)) (field setWidth (s .args .initial)) (four t)
+    c .put-set .ensures ∙ field-stored (O s) 0 (take 4 (F s)) (field setWidth (setOf (s .args .initial))) (four t)
 
-six : (c : tie.After-put-eight2) → c .put-eight2 .last .0 ≡ sets (O (c .before .before .before .before .before .before .before .before .before .before .before .before .before .before .before .before .before .before .before .before .before .before .before)) 0 (laid (F (c .before .before .before .before .before .before .before .before .before .before .before .before .before .before .before .before .before .before .before .before .before .before .before)))
+six : (c : tie.After-put-set2) → c .put-set2 .last .0 ≡ sets (O (c .before .before .before .before .before .before .before .before .before .before .before .before .before .before .before .before .before .before .before .before .before .before .before)) 0 (laid (F (c .before .before .before .before .before .before .before .before .before .before .before .before .before .before .before .before .before .before .before .before .before .before .before)))
 six c =
     let t = c .before .before .before .before in
     let s = t .before .before .before .before .before .before .before .before .before .before .before .before .before .before .before .before .before .before .before in
-    c .put-eight2 .ensures ∙ field-stored (O s) 0 (take 5 (F s)) (field setWidth (s .args .goal)) (five t)
+    c .put-set2 .ensures ∙ field-stored (O s) 0 (take 5 (F s)) (field setWidth (setOf (s .args .goal))) (five t)
 
 put-one-requires : tie.Need-put-one-requires
 put-one-requires c κs = search needs
@@ -73,11 +74,11 @@ put-one-requires-2 c κs = search needs
 put-one-requires-3 : tie.Need-put-one-requires-3
 put-one-requires-3 c κs = search needs
 
-put-eight-requires : tie.Need-put-eight-requires
-put-eight-requires c κs = search needs
+put-set-requires : tie.Need-put-set-requires
+put-set-requires c κs = search needs
 
-put-eight-requires-2 : tie.Need-put-eight-requires-2
-put-eight-requires-2 c κs = search needs
+put-set-requires-2 : tie.Need-put-set-requires-2
+put-set-requires-2 c κs = search needs
 
 same-length : tie.Need-same-length
 same-length c = search needs
@@ -86,7 +87,7 @@ returns : tie.Need-returns
 returns c =
     let t = c .before .before in
     let s = t .before .before .before .before .before .before .before .before .before .before .before .before .before .before .before .before .before .before .before .before .before .before .before in
-    six t ∙ ap (λ (b : List ℕ). sets (O s) 0 b) (laid-head (s .args .states) (s .args .commands) (s .args .initial) (s .args .goal))
+    six t ∙ ap (λ (b : List ℕ). sets (O s) 0 b) (laid-head (s .args .states) (s .args .commands) (setOf (s .args .initial)) (setOf (s .args .goal)))
 
 pub put-head-spec : {M : Type 1} → statement M
 put-head-spec =
@@ -99,7 +100,7 @@ put-head-spec =
     put-four-requires
     put-one-requires-2
     put-one-requires-3
-    put-eight-requires
-    put-eight-requires-2
+    put-set-requires
+    put-set-requires-2
     same-length
     returns)

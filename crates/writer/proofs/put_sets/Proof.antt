@@ -1,12 +1,14 @@
 -- `writer::put_sets` meets its contract. The loop's invariant: the first i following sets stand in the output. The measure is how many are left.
 use mathlib.Core.Path.{_≡_, refl, ap, _∙_}
 use mathlib.Core.List.{List, map}
-use Prim.Native.Nat.{ℕ, _-_, _≤_}
+use Prim.Native.Nat.{ℕ, _+_, _-_, _*_, _≤_}
 use native.Mathlib.Omega.{arith}
 use denote.Ref.{now}
 use lib.ListN.{length, take}
 use lib.Seq.{sets, length-sets, take-all}
 use borrow.Author.Needs.{needs}
+use Rattle.sets.proofs.Values.{stands-for}
+use Rattle.numbers.specs.Bytes.{bytesOf}
 use Rattle.sheet.specs.Sheet.{setsAt, setWidth}
 use Rattle.sheet.proofs.Fields.{field, laid, laid-sets}
 use Rattle.writer.proofs.Stores.{set-stored}
@@ -27,20 +29,17 @@ loop-holds : tie.Need-loop-holds Inv-loop μ-loop
 unfolding laid
 loop-holds c = (omega arith, refl)
 
-mul-put-eight : tie.Need-mul-put-eight Inv-loop μ-loop
-mul-put-eight c = omega arith
+mul-put-set : tie.Need-mul-put-set Inv-loop μ-loop
+mul-put-set c = omega arith
 
-add-put-eight : tie.Need-add-put-eight Inv-loop μ-loop
-add-put-eight c = omega arith
+add-put-set : tie.Need-add-put-set Inv-loop μ-loop
+add-put-set c = omega arith
 
-mul-put-eight-2 : tie.Need-mul-put-eight-2 Inv-loop μ-loop
-mul-put-eight-2 c = search needs
+given-set-requires : tie.Need-given-set-requires Inv-loop μ-loop
+given-set-requires c κs = search needs
 
-shared-slice-read-put-eight : tie.Need-shared-slice-read-put-eight Inv-loop μ-loop
-shared-slice-read-put-eight c = search needs
-
-put-eight-requires : tie.Need-put-eight-requires Inv-loop μ-loop
-put-eight-requires c κs = omega (arith, kept (c .before .before .before))
+put-set-requires : tie.Need-put-set-requires Inv-loop μ-loop
+put-set-requires c κs = omega (arith, kept (c .before .before .before))
 
 add-i : tie.Need-add-i Inv-loop μ-loop
 add-i c = omega arith
@@ -52,7 +51,7 @@ loop-again : tie.Need-loop-again Inv-loop μ-loop
 loop-again c =
     let t = c .before .before .before .before .before in
     let a = t .before .before .before .before .args in
-    (omega arith, c .before .before .put-eight .ensures ∙ set-stored (now (a .out)) setsAt (now (a .given)) (t .before .loop .i) (t .loop-test .taken) (t .before .loop .inv .1))
+    (omega arith, c .before .before .put-set .ensures ∙ ap (λ (x : ℕ). sets (t .before .loop .out) (setsAt + setWidth * t .before .loop .i) (bytesOf setWidth x)) (stands-for (c .before .before .before .given-set .ensures)) ∙ set-stored (now (a .out)) setsAt (now (a .given)) (t .before .loop .i) (t .loop-test .taken) (t .before .loop .inv .1))
 
 same-length : tie.Need-same-length Inv-loop μ-loop
 same-length c = kept (c .before)
@@ -69,11 +68,10 @@ put-sets-spec =
     Inv-loop
     μ-loop
     loop-holds
-    mul-put-eight
-    add-put-eight
-    mul-put-eight-2
-    shared-slice-read-put-eight
-    put-eight-requires
+    mul-put-set
+    add-put-set
+    given-set-requires
+    put-set-requires
     add-i
     loop-less
     loop-again

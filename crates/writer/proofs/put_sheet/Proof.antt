@@ -5,6 +5,7 @@ use Prim.Native.Nat.{ℕ}
 use denote.Ref.{now}
 use lib.Seq.{sets}
 use Rattle.numbers.specs.Bytes.{bytesOfEach}
+use Rattle.sets.specs.Words.{setOf}
 use Rattle.sheet.specs.Sheet.{Sheet, sheetWith, headBytes, setsAt, setWidth}
 use Rattle.writer.proofs.WriteLaws.{no-room, room}
 use borrow.Author.Needs.{needs}
@@ -13,11 +14,11 @@ use Rattle.writer.proofs.put_sheet.Tie as tie
 
 -- the sheet that is given
 abbrev S : tie.Start → Sheet
-S c = sheetWith (c .args .states) (c .args .commands) (c .args .initial) (c .args .goal) (now (c .args .given))
+S c = sheetWith (c .args .states) (c .args .commands) (setOf (c .args .initial)) (setOf (c .args .goal)) (now (c .args .given))
 
 -- the output once the head and the following sets are stored
 abbrev Both : tie.Start → List ℕ
-Both c = sets (sets (now (c .args .out)) 0 (headBytes (c .args .states) (c .args .commands) (c .args .initial) (c .args .goal))) setsAt (bytesOfEach setWidth (now (c .args .given)))
+Both c = sets (sets (now (c .args .out)) 0 (headBytes (c .args .states) (c .args .commands) (setOf (c .args .initial)) (setOf (c .args .goal)))) setsAt (bytesOfEach setWidth (now (c .args .given)))
 
 both : (c : tie.After-put-sets) → c .put-sets .last .0 ≡ Both (c .before .before .before .before .before .before .before .before .before)
 both c = c .put-sets .ensures ∙ ap (λ (m : List ℕ). sets m setsAt (bytesOfEach setWidth (now (c .before .before .before .before .before .before .before .before .before .args .given)))) (c .before .before .before .before .put-head .ensures)

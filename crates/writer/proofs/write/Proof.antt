@@ -5,8 +5,8 @@ use Prim.Native.Nat.{ℕ, _+_, _*_}
 use native.Mathlib.Omega.{arith}
 use denote.Ref.{now}
 use lib.ListN.{length, drop}
+use Rattle.sets.specs.Words.{setOf}
 use Rattle.sheet.specs.Sheet.{Sheet, sheetWith, encode, lengthFor, setWidth}
-use Rattle.sheet.specs.Refusals.{headOf}
 use Rattle.writer.specs.declared.Writing.{Writing}
 use Rattle.writer.specs.declared.Writing.the-variants.{Written, Refused}
 use Rattle.sheet.specs.declared.Check.the-variants.{Passed, Failed}
@@ -18,7 +18,7 @@ use Rattle.writer.proofs.write.Tie as tie
 
 -- the sheet that is given, the output at entry and its length, and what a sheet that passes gives
 abbrev S : tie.Start → Sheet
-S c = sheetWith (c .args .states) (c .args .commands) (c .args .initial) (c .args .goal) (now (c .args .given))
+S c = sheetWith (c .args .states) (c .args .commands) (setOf (c .args .initial)) (setOf (c .args .goal)) (now (c .args .given))
 
 abbrev O : tie.Start → List ℕ
 O c = now (c .args .out)
@@ -74,7 +74,7 @@ put-sheet-requires c κs =
     let t = c .before .before .before .before in
     let g : Sheet = S (t .before .before .before .before .before) in
     let n : ℕ = 18 + setWidth * length (g .sets) in
-    (omega (arith, head-even n (headOf g) (head-passed t)), head-fits n (headOf g) (head-passed t))
+    (omega (arith, head-even n (g .states) (g .commands) (g .initial) (g .goal) (head-passed t)), head-fits n (g .states) (g .commands) (g .initial) (g .goal) (head-passed t))
 
 returns : tie.Need-returns
 returns c =

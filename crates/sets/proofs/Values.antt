@@ -1,0 +1,22 @@
+-- What the values of type `Set` stand for: each set has its value, and a value is told by its set. Callers use these laws and leave `setOf` and `setFor` shut.
+use mathlib.Core.Path.{_≡_, refl, ap, _∙_}
+use Prim.Native.Nat.{ℕ}
+use Rattle.sets.specs.Words.{Value, setOf, setFor}
+
+-- the value for a set stands for it
+pub set-for : (y : ℕ) → setOf (setFor y) ≡ y
+unfolding setOf setFor
+set-for y = refl
+
+pub stands-for : {x : Value} {y : ℕ} → x ≡ setFor y → setOf x ≡ y
+stands-for {x} {y} e = ap setOf e ∙ set-for y
+
+-- a value is the one that stands for its set
+pub for-set : (x : Value) → setFor (setOf x) ≡ x
+unfolding setOf setFor
+for-set x = refl
+
+-- two values that stand for one set are the same
+pub set-of-inj : (x y : Value) → setOf x ≡ setOf y → x ≡ y
+unfolding setOf
+set-of-inj x y e = e
