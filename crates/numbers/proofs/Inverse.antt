@@ -1,15 +1,16 @@
 -- From numbers to bytes and back: a number's bytes stand for it, and bytes are the bytes of the number that they stand for.
 -- The idea: bytes of one length that stand for one number are equal.
 use mathlib.Core.Path.{_≡_, refl, sym, ap, ap₂, _∙_, subst}
-use mathlib.Core.List.{List, [], _∷_}
+use mathlib.Core.List.{List, [], _∷_, _++_}
 use Prim.Native.Nat.{ℕ, zero, suc, _+_, _*_, _/_, _%_, _^_, _≤_, _<_}
 use native.Mathlib.Nat.{pow-suc, mul-comm, mod-lt, mod-eq-of-lt, mod-one, lt-of-not-le}
 use native.Mathlib.Omega.{arith}
 use lib.Arith.{mod-mul, digits-lt, digits-div, digits-mod}
 use native.Mathlib.Decide.{decLt}
-use lib.ListN.{length, getD, drop, length-take, List·getD-eq-default}
-use lib.Seq.{getD-take, getD-drop}
+use lib.ListN.{length, getD, take, drop, length-take, List·getD-eq-default}
+use lib.Seq.{getD-take, getD-drop, drop-cons}
 use Rattle.numbers.specs.Bytes.{number, bytesOf, part, AreBytes}
+use Rattle.numbers.proofs.Numbers.{part-add}
 use Rattle.numbers.proofs.Storing.{length-bytes}
 
 pow-256 : (k : ℕ) → zero < 256 ^ k
@@ -63,6 +64,29 @@ pub bytes-of-number : (bs : List ℕ) (k : ℕ) → length bs ≡ k → AreBytes
 bytes-of-number bs k e a =
     number-one (bytesOf k (number bs)) bs (record { each = byte-lt k (number bs) }) a (length-bytes k (number bs) ∙ sym e)
     (number-of-bytes k (number bs) (subst (λ (m : ℕ). number bs < 256 ^ m) e (number-lt bs a)))
+
+-- ---- bytes one after the other
+
+append-each : (a b : List ℕ) → AreBytes a → AreBytes b → (i : ℕ) → getD (a ++ b) i 0 < 256
+append-each [] b h k i = k .each i
+append-each (x ∷ a) b h k zero = h .each 0
+append-each (x ∷ a) b h k (suc i) = append-each a b (tail-bytes h) k i
+
+pub bytes-add : (at j k n : ℕ) (l : List ℕ) → j + k ≡ n → AreBytes (part at j l) → AreBytes (part (at + j) k l) → AreBytes (part at n l)
+bytes-add at j k n l e h i = subst AreBytes (sym (part-add at j k l) ∙ ap (λ (m : ℕ). part at m l) e) (record { each = append-each (part at j l) (part (at + j) k l) h i })
+
+pub bytes-upto : (at j k : ℕ) (l : List ℕ) → j ≡ k → AreBytes (part at j l) → AreBytes (part at k l)
+bytes-upto at j k l e h = subst (λ (n : ℕ). AreBytes (part at n l)) e h
+
+pub bytes-none : (at : ℕ) (l : List ℕ) → AreBytes (part at 0 l)
+bytes-none at l = record { each = λ i. omega arith }
+
+pub bytes-one : (at : ℕ) (l : List ℕ) → at < length l → getD l at 0 < 256 → AreBytes (part at 1 l)
+bytes-one at l h b = subst (λ (r : List ℕ). AreBytes (take 1 r)) (sym (drop-cons l at 0 h)) (record { each = only })
+  where
+    only : (i : ℕ) → getD (getD l at 0 ∷ []) i 0 < 256
+    only zero = b
+    only (suc i) = omega arith
 
 -- ---- a part of bytes
 

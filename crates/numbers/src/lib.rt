@@ -3,7 +3,7 @@ ghost use mathlib.Core.Path.{_≡_};
 ghost use Prim.Native.Nat.{_+_, _*_, _^_, _≤_, _<_};
 ghost use lib.ListN.{length};
 ghost use lib.Seq.{sets as stored};
-ghost use Rattle.numbers.specs.Bytes.{numberAt, bytesOf};
+ghost use Rattle.numbers.specs.Bytes.{part, numberAt, bytesOf, AreBytes};
 
 // A byte as a number.
 pub fn wide(x: u8) -> u64
@@ -16,7 +16,7 @@ pub fn wide(x: u8) -> u64
 fn with_two(x: u64, bytes: &[u8], at: usize) -> u64
     requires { ⌜ x < 256 ^ 6 ⌝ }
     requires { ⌜ at + 2 ≤ length (now bytes) ⌝ }
-    ensures { λ r. ⌜ (r ≡ x * 256 ^ 2 + numberAt at 2 (now (bytes .entry))) × (r < (x + 1) * 256 ^ 2) ⌝ }
+    ensures { λ r. ⌜ (r ≡ x * 256 ^ 2 + numberAt at 2 (now (bytes .entry))) × (r < (x + 1) * 256 ^ 2) × AreBytes (part at 2 (now (bytes .entry))) ⌝ }
 {
     let high = wide(bytes[at]);
     let low = wide(bytes[at + 1]);
@@ -26,22 +26,22 @@ fn with_two(x: u64, bytes: &[u8], at: usize) -> u64
 fn with_four(x: u64, bytes: &[u8], at: usize) -> u64
     requires { ⌜ x < 256 ^ 4 ⌝ }
     requires { ⌜ at + 4 ≤ length (now bytes) ⌝ }
-    ensures { λ r. ⌜ (r ≡ x * 256 ^ 4 + numberAt at 4 (now (bytes .entry))) × (r < (x + 1) * 256 ^ 4) ⌝ }
+    ensures { λ r. ⌜ (r ≡ x * 256 ^ 4 + numberAt at 4 (now (bytes .entry))) × (r < (x + 1) * 256 ^ 4) × AreBytes (part at 4 (now (bytes .entry))) ⌝ }
 {
     with_two(with_two(x, bytes, at), bytes, at + 2)
 }
 
-// The number in four bytes, and in eight.
+// The number in four bytes, and in eight. What was read was bytes: the prover knows of an element that it is one only once it is read.
 pub fn four(bytes: &[u8], at: usize) -> u64
     requires { ⌜ at + 4 ≤ length (now bytes) ⌝ }
-    ensures { λ r. ⌜ (r ≡ numberAt at 4 (now (bytes .entry))) × (r < 256 ^ 4) ⌝ }
+    ensures { λ r. ⌜ (r ≡ numberAt at 4 (now (bytes .entry))) × (r < 256 ^ 4) × AreBytes (part at 4 (now (bytes .entry))) ⌝ }
 {
     with_four(0, bytes, at)
 }
 
 pub fn eight(bytes: &[u8], at: usize) -> u64
     requires { ⌜ at + 8 ≤ length (now bytes) ⌝ }
-    ensures { λ r. ⌜ r ≡ numberAt at 8 (now (bytes .entry)) ⌝ }
+    ensures { λ r. ⌜ (r ≡ numberAt at 8 (now (bytes .entry))) × AreBytes (part at 8 (now (bytes .entry))) ⌝ }
 {
     with_four(four(bytes, at), bytes, at + 4)
 }

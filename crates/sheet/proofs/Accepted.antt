@@ -4,10 +4,10 @@ use mathlib.Core.Path.{_≡_, sym, ap, _∙_}
 use mathlib.Core.Logic.{_↔_}
 use mathlib.Core.List.{List}
 use Prim.Native.Nat.{ℕ}
-use Rattle.numbers.specs.Bytes.{AreBytes}
 use Rattle.sheet.specs.Sheet.{Sheet, Valid, encode, sheetIn}
-use Rattle.sheet.specs.Answers.{headOf, reading}
+use Rattle.sheet.specs.Answers.{headOf, reading, ReadAs}
 use Rattle.sheet.specs.declared.Head.{Head}
+use Rattle.sheet.specs.declared.Reading.{Reading}
 use Rattle.sheet.specs.declared.Reading.the-variants.{Accepted}
 use Rattle.sheet.proofs.Accepts.{accepts-reading, reading-accepts}
 use Rattle.sheet.proofs.RoundTrip.{sheet-of, accepts-encode, encode-in}
@@ -23,16 +23,17 @@ pub record IsSheet (l : List ℕ) (h : Head) : Type 0 where
 pub encoded-accepted : (s : Sheet) → Valid s → reading (encode s) ≡ Accepted (headOf s)
 encoded-accepted s v = accepts-reading (encode s) (accepts-encode s v) ∙ ap (λ (t : Sheet). Accepted (headOf t)) (sheet-of s v)
 
-pub accepted-iff : (l : List ℕ) → AreBytes l → (h : Head) → (reading l ≡ Accepted h) ↔ IsSheet l h
-accepted-iff l b h = (there, back)
+-- what the reader answers of lent bytes accepts them exactly where they are a valid sheet's
+pub accepted-iff : (l : List ℕ) {r : Reading} → ReadAs l r → (h : Head) → (r ≡ Accepted h) ↔ IsSheet l h
+accepted-iff l {r} u h = (there, back)
   where
-    there : reading l ≡ Accepted h → IsSheet l h
+    there : r ≡ Accepted h → IsSheet l h
     there e =
-        let t = reading-accepts l h e in
-        record { sheet = sheetIn l; is-valid = t .accepts .is-valid; bytes = encode-in l b (t .accepts); head = sym (t .head) }
+        let t = reading-accepts l h (sym (u .answer) ∙ e) in
+        record { sheet = sheetIn l; is-valid = t .accepts .is-valid; bytes = encode-in l (u .bytes .are-bytes e) (t .accepts); head = sym (t .head) }
 
-    back : IsSheet l h → reading l ≡ Accepted h
-    back i = ap reading (sym (i .bytes)) ∙ encoded-accepted (i .sheet) (i .is-valid) ∙ ap Accepted (i .head)
+    back : IsSheet l h → r ≡ Accepted h
+    back i = u .answer ∙ ap reading (sym (i .bytes)) ∙ encoded-accepted (i .sheet) (i .is-valid) ∙ ap Accepted (i .head)
 
 -- only one valid sheet has given bytes
 pub sheet-unique : (s t : Sheet) → Valid s → Valid t → encode s ≡ encode t → s ≡ t

@@ -5,14 +5,15 @@ use mathlib.Core.Logic.{_↔_}
 use mathlib.Core.Bool.{Bool, true, false, cond}
 use mathlib.Core.Option.{some}
 use mathlib.Core.List.{List, [], _∷_, _++_}
-use Prim.Native.Nat.{ℕ, zero, suc, _+_, _<_, _≤_}
+use Prim.Native.Nat.{ℕ, zero, suc, _+_, _*_, _<_, _≤_}
 use native.Mathlib.Omega.{arith}
 use lib.ListN.{getElem?}
 use Rattle.meaning.proofs.Tests.{clash}
 use Rattle.sheet.specs.Sheet.{Sheet, sheetIn, setsAt, setWidth}
-use Rattle.sheet.specs.Refusals.{Row, verdict, headRows, setRows, sheetRows, isUneven, stated, readingRows}
+use Rattle.sheet.specs.Refusals.{Row, verdict, headRows, setRows, sheetRows, unevenBy, stated, readingRows}
 use Rattle.sheet.specs.Answers.{headOf, reading}
 use Rattle.sheet.specs.declared.Refusal.{Refusal}
+use Rattle.sheet.specs.declared.Counted.the-variants.{Stated}
 use Rattle.sheet.specs.declared.Reading.the-variants.{Accepted, Refused}
 use Rattle.sheet.specs.declared.Check.{Check}
 use Rattle.sheet.specs.declared.Check.the-variants.{Passed, Failed}
@@ -108,4 +109,4 @@ each-gives low high (r ∷ rs) q e f = go (r .holds) f (each-gives low high rs q
 pub reading-gives : (l : List ℕ) (q : Refusal) → reading l ≡ Refused q → Between 1 8 q
 unfolding readingRows
 reading-gives l q e =
-    each-gives 1 8 (readingRows l) q (omega arith, (omega arith, (omega arith, each-sheet 1 8 (omega arith) (omega arith) (isUneven (stated l) (sheetIn l .states) (sheetIn l .commands)) (sheetIn l)))) (given-fails (readingRows l) q (refused-as l q .0 e))
+    each-gives 1 8 (readingRows l) q (omega arith, (omega arith, (omega arith, each-sheet 1 8 (omega arith) (omega arith) (unevenBy (Stated (stated l)) (sheetIn l .commands * sheetIn l .states)) (sheetIn l)))) (given-fails (readingRows l) q (refused-as l q .0 e))

@@ -25,6 +25,9 @@ abbrev pub onCheck : {A : Type 0} → (Refusal → A) → A → Check → A
 onCheck refused otherwise Passed = otherwise
 onCheck refused otherwise (Failed q) = refused q
 
+pub not-failed : {q : Refusal} → ¬ (Failed q ≡ Passed)
+not-failed e = clash (cc)
+
 module _ {A : Type 0} (refused : Refusal → A) (otherwise : A) where
   pub holds-here : (r : Row) (rs : List Row) → r .holds ≡ true → verdict refused otherwise (r ∷ rs) ≡ refused (r .gives)
   unfolding verdict

@@ -1,6 +1,8 @@
 -- What reading answers by the table of refusals, and the head of an answer.
+use mathlib.Core.Path.{_≡_}
 use mathlib.Core.List.{List}
 use Prim.Native.Nat.{ℕ}
+use Rattle.numbers.specs.Bytes.{AreBytes}
 use Rattle.sets.specs.Words.{Value, setFor}
 use Rattle.sheet.specs.Sheet.{Sheet, sheetIn}
 use Rattle.sheet.specs.Refusals.{verdict, readingRows}
@@ -17,6 +19,15 @@ headOf s = headWith (s .states) (s .commands) (setFor (s .initial)) (setFor (s .
 
 unfoldable pub reading : List ℕ → Reading
 reading l = verdict Refused (Accepted (headOf (sheetIn l))) (readingRows l)
+
+-- the elements of l are bytes where r accepts
+pub record BytesIf (r : Reading) (l : List ℕ) : Type 0 where
+  pub are-bytes : {h : Head} → r ≡ Accepted h → AreBytes l
+
+-- what reading promises: its answer, and that an accepted sheet's elements are bytes. To the prover an element of a lent slice is a number of any size until it is read.
+pub record ReadAs (l : List ℕ) (r : Reading) : Type 0 where
+  pub answer : r ≡ reading l
+  pub bytes : BytesIf r l
 
 -- a refused sheet has no states and no commands in it
 abbrev pub shownHead : Reading → Head

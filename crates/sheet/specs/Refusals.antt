@@ -2,12 +2,14 @@
 -- from here, and row 9 beside them.
 use mathlib.Core.Bool.{Bool, cond, not, _||_}
 use mathlib.Core.List.{List, [], _∷_, _++_}
-use Prim.Native.Nat.{ℕ, _+_, _^_}
+use Prim.Native.Nat.{ℕ, _+_, _*_, _^_}
 use lib.Dec.{eqb, leb, ltb}
 use lib.ListN.{length}
 use Rattle.numbers.specs.Bytes.{numberAt}
-use Rattle.sheet.specs.Sheet.{Sheet, sheetIn, setWidth, setsAt, statedFor}
+use Rattle.sheet.specs.Sheet.{Sheet, sheetIn, setWidth, setsAt}
 use Rattle.sheet.specs.declared.Refusal.{Refusal}
+use Rattle.sheet.specs.declared.Counted.{Counted}
+use Rattle.sheet.specs.declared.Counted.the-variants.{Stated, Given}
 
 pub record Row : Type 0 where
   pub holds : Bool
@@ -37,7 +39,12 @@ unfoldable pub setRows : ℕ → ℕ → List ℕ → List Row
 setRows states at [] = []
 setRows states at (x ∷ xs) = row (missing states x) 8 at ∷ setRows states (at + setWidth) xs
 
--- rows 4 to 7, and with the following sets 4 to 8. `uneven` is the condition of row 5, which reading and writing word each in its way.
+-- row 5's condition, which reading and writing word each in its way: by the stated length, and by how many sets are given
+abbrev pub unevenBy : Counted → ℕ → Bool
+unevenBy (Stated n) sets = not (eqb n (18 + setWidth * sets))
+unevenBy (Given n) sets = not (eqb n sets)
+
+-- rows 4 to 7, and with the following sets 4 to 8
 unfoldable pub headRows : Bool → ℕ → ℕ → ℕ → ℕ → List Row
 headRows uneven states commands initial goal =
     row (outside 1 64 states) 4 5 ∷
@@ -53,13 +60,9 @@ sheetRows uneven s = headRows uneven (s .states) (s .commands) (s .initial) (s .
 abbrev pub stated : List ℕ → ℕ
 stated l = numberAt 1 4 l
 
--- row 5's condition by a stated length
-abbrev pub isUneven : ℕ → ℕ → ℕ → Bool
-isUneven n states commands = not (eqb n (statedFor states commands))
-
 unfoldable pub readingRows : List ℕ → List Row
 readingRows l =
     row (ltb (length l) 5) 1 (length l) ∷
     row (not (eqb (numberAt 0 1 l) 1)) 2 0 ∷
     row (not (eqb (5 + stated l) (length l)) || ltb (stated l) 18) 3 1 ∷
-    sheetRows (isUneven (stated l) (sheetIn l .states) (sheetIn l .commands)) (sheetIn l)
+    sheetRows (unevenBy (Stated (stated l)) (sheetIn l .commands * sheetIn l .states)) (sheetIn l)

@@ -10,10 +10,10 @@ ghost use mathlib.Core.List.{map};
 ghost use Prim.Native.Nat.{_+_, _*_, _≤_, _<_};
 ghost use lib.Dec.{eqb};
 ghost use lib.ListN.{length, getD};
-ghost use Rattle.numbers.specs.Bytes.{numberAt};
+ghost use Rattle.numbers.specs.Bytes.{part, numberAt, AreBytes};
 ghost use Rattle.sheet.specs.Sheet.{setsAt, setWidth, from, setIn, sheetIn};
-ghost use Rattle.sheet.specs.Refusals.{missing, outside, isUneven, headRows, setRows, sheetRows, verdict};
-ghost use Rattle.sheet.specs.Answers.{headOf, reading, shownHead};
+ghost use Rattle.sheet.specs.Refusals.{missing, outside, unevenBy, headRows, setRows, sheetRows, verdict};
+ghost use Rattle.sheet.specs.Answers.{headOf, shownHead, BytesIf, ReadAs};
 
 // Where the parts of a sheet stand, and how many bytes a set has.
 pub const STATED_AT: usize = 1;
@@ -59,6 +59,12 @@ pub enum Check {
     Failed(Refusal),
 }
 
+// What is said of the number of following sets: the stated length in reading, and in writing how many are given.
+pub enum Counted {
+    Stated(usize),
+    Given(usize),
+}
+
 fn refused(number: u8, place: usize) -> Reading
     ensures { λ r. ⌜ r ≡ Reading.Refused (record { number = number; place = place }) ⌝ }
 {
@@ -75,6 +81,7 @@ fn failed(number: u8, place: usize) -> Check
 pub fn set_in(bytes: &[u8], at: usize) -> Set
     requires { ⌜ at + setWidth ≤ length (now bytes) ⌝ }
     ensures { λ r. ⌜ r ≡ setFor (numberAt at setWidth (now (bytes .entry))) ⌝ }
+    ensures { λ r. ⌜ AreBytes (part at setWidth (now (bytes .entry))) ⌝ }
 {
     sets::of_word(eight(bytes, at))
 }
@@ -111,9 +118,26 @@ fn no_start(states: usize, set: Set) -> bool
     }
 }
 
-// Rows 4 to 7.
-pub fn check_head(stated: usize, states: usize, commands: usize, initial: Set, goal: Set) -> Check
-    ensures { λ r. ⌜ r ≡ verdict Check.Failed Check.Passed (headRows (isUneven stated states commands) states commands (setOf initial) (setOf goal)) ⌝ }
+// Is the number of following sets another than the one that is said?
+fn is_uneven(counted: Counted, sets: usize) -> bool
+    requires { ⌜ sets ≤ 2048 ⌝ }
+    ensures { λ r. ⌜ r ≡ unevenBy counted sets ⌝ }
+{
+    match counted {
+        Counted::Stated(length) => length != SHORTEST + SET_WIDTH * sets,
+        Counted::Given(number) => number != sets,
+    }
+}
+
+// Rows 4 to 7. The product of the counts is formed once both are in range.
+pub fn check_head(
+    counted: Counted,
+    states: usize,
+    commands: usize,
+    initial: Set,
+    goal: Set,
+) -> Check
+    ensures { λ r. ⌜ r ≡ verdict Check.Failed Check.Passed (headRows (unevenBy counted (commands * states)) states commands (setOf initial) (setOf goal)) ⌝ }
 {
     if is_outside(1, 64, states) {
         return failed(4, STATES_AT);
@@ -121,7 +145,7 @@ pub fn check_head(stated: usize, states: usize, commands: usize, initial: Set, g
     if is_outside(1, 32, commands) {
         return failed(4, COMMANDS_AT);
     }
-    if stated != SHORTEST + SET_WIDTH * (commands * states) {
+    if is_uneven(counted, commands * states) {
         return failed(5, STATED_AT);
     }
     if no_start(states, initial) {
@@ -137,6 +161,7 @@ pub fn check_head(stated: usize, states: usize, commands: usize, initial: Set, g
 fn check_sets(sheet: &[u8], states: usize, count: usize) -> Check
     requires { ⌜ setsAt + setWidth * count ≤ length (now sheet) ⌝ }
     ensures { λ r. ⌜ r ≡ verdict Check.Failed Check.Passed (setRows states setsAt (map (setIn (now (sheet .entry))) (from 0 count))) ⌝ }
+    ensures { λ r. ⌜ (r ≡ Check.Passed → AreBytes (part setsAt (setWidth * count) (now (sheet .entry)))) ⌝ }
 {
     let mut i = 0;
     while i < count {
@@ -153,13 +178,14 @@ fn check_sets(sheet: &[u8], states: usize, count: usize) -> Check
 fn read_stated(sheet: &[u8], stated: usize) -> Reading
     requires { ⌜ length (now sheet) ≡ 5 + stated ⌝ }
     requires { ⌜ 18 ≤ stated ⌝ }
-    ensures { λ r. ⌜ r ≡ verdict Reading.Refused (Reading.Accepted (headOf (sheetIn (now (sheet .entry))))) (sheetRows (isUneven stated (sheetIn (now (sheet .entry)) .states) (sheetIn (now (sheet .entry)) .commands)) (sheetIn (now (sheet .entry)))) ⌝ }
+    ensures { λ r. ⌜ r ≡ verdict Reading.Refused (Reading.Accepted (headOf (sheetIn (now (sheet .entry))))) (sheetRows (unevenBy (Counted.Stated stated) (sheetIn (now (sheet .entry)) .commands * sheetIn (now (sheet .entry)) .states)) (sheetIn (now (sheet .entry)))) ⌝ }
+    ensures { λ r. ⌜ BytesIf r (part 5 stated (now (sheet .entry))) ⌝ }
 {
     let states = wide(sheet[STATES_AT]) as usize;
     let commands = wide(sheet[COMMANDS_AT]) as usize;
     let initial = set_in(sheet, INITIAL_AT);
     let goal = set_in(sheet, GOAL_AT);
-    match check_head(stated, states, commands, initial, goal) {
+    match check_head(Counted::Stated(stated), states, commands, initial, goal) {
         Check::Failed(r) => Reading::Refused(r),
         Check::Passed => match check_sets(sheet, states, commands * states) {
             Check::Failed(r) => Reading::Refused(r),
@@ -173,9 +199,9 @@ fn read_stated(sheet: &[u8], stated: usize) -> Reading
     }
 }
 
-// Reads a sheet: its head, or the refusal by the table.
+// Reads a sheet: its head, or the refusal by the table. Each byte of an accepted sheet was read.
 pub fn read(sheet: &[u8]) -> Reading
-    ensures { λ r. ⌜ r ≡ reading (now (sheet .entry)) ⌝ }
+    ensures { λ r. ⌜ ReadAs (now (sheet .entry)) r ⌝ }
 {
     let length = sheet.len();
     if length < COUNTED_AT {

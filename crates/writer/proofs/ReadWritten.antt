@@ -12,12 +12,12 @@ use borrow.Author.Tests.{le-ltb, ltb-false, eq-eqb, eqb-true, not-false}
 use Rattle.meaning.proofs.Tests.{clash}
 use Rattle.sets.specs.Words.{setOf}
 use Rattle.sets.proofs.Values.{set-for}
-use Rattle.numbers.specs.Bytes.{AreBytes}
 use Rattle.sheet.specs.Sheet.{Sheet, Valid, encode, sheetIn, sheetWith, lengthFor, domain, domainIn}
 use Rattle.sheet.specs.Refusals.{Row, verdict, sheetRows}
-use Rattle.sheet.specs.Answers.{headOf, reading}
+use Rattle.sheet.specs.Answers.{headOf, reading, ReadAs}
 use Rattle.writer.specs.Written.{writing, written, roomRow, writingRows}
 use Rattle.sheet.specs.declared.Head.{Head}
+use Rattle.sheet.specs.declared.Reading.{Reading}
 use Rattle.sheet.specs.declared.Reading.the-variants.{Accepted}
 use Rattle.writer.specs.declared.Writing.the-variants.{Written, Refused}
 use Rattle.sheet.specs.declared.Check.{Check}
@@ -123,13 +123,13 @@ pub record Rewrites (h : Head) (l out : List ℕ) : Type 0 where
   pub answer : writing (reread h l) (length out) ≡ Written (length l)
   pub output : written (reread h l) out ≡ l ++ drop (length l) out
 
-pub rewritten : (l : List ℕ) → AreBytes l → (h : Head) → reading l ≡ Accepted h → (out : List ℕ) → length l ≤ length out → Rewrites h l out
-rewritten l b h e out room =
-    let t = reading-accepts l h e in
+pub rewritten : (l : List ℕ) {r : Reading} → ReadAs l r → (h : Head) → r ≡ Accepted h → (out : List ℕ) → length l ≤ length out → Rewrites h l out
+rewritten l {r} u h e out room =
+    let t = reading-accepts l h (sym (u .answer) ∙ e) in
     let same : reread h l ≡ sheetIn l = ap (λ (g : Head). reread g l) (t .head) ∙ reread-own l in
     let n : lengthFor (sheetIn l .states) (sheetIn l .commands) ≡ length l = sym (t .accepts .long) in
     let w : Writes (sheetIn l) (length out) = record { is-valid = t .accepts .is-valid; fits = omega (arith, n, room) } in
     record {
       answer = ap (λ (s : Sheet). writing s (length out)) same ∙ writes-answer (sheetIn l) out w ∙ ap Written n;
-      output = ap (λ (s : Sheet). written s out) same ∙ writes-output (sheetIn l) out w ∙ ap₂ (λ (m : List ℕ) (k : ℕ). m ++ drop k out) (encode-in l b (t .accepts)) n;
+      output = ap (λ (s : Sheet). written s out) same ∙ writes-output (sheetIn l) out w ∙ ap₂ (λ (m : List ℕ) (k : ℕ). m ++ drop k out) (encode-in l (u .bytes .are-bytes e) (t .accepts)) n;
     }

@@ -16,6 +16,7 @@ use Rattle.sheet.specs.Refusals.{Row, verdict, headRows, setRows}
 use Rattle.writer.specs.Written.{writing, written, writingBy, writtenBy, roomRow, writingRows}
 use Rattle.sheet.specs.declared.Refusal.{Refusal}
 use Rattle.writer.specs.declared.Writing.the-variants.{Written, Refused}
+use Rattle.sheet.specs.declared.Counted.the-variants.{Given}
 use Rattle.sheet.specs.declared.Check.{Check}
 use Rattle.sheet.specs.declared.Check.the-variants.{Passed, Failed}
 use Rattle.sheet.proofs.Rows.{onCheck, checked, by-check}
@@ -23,17 +24,9 @@ use Rattle.sheet.proofs.ReadLaws.{headRowsBy, checkBy}
 use Rattle.sheet.proofs.Fields.{field, headFields, laid-head, laid-sets, laid-sheet, length-encode}
 use Rattle.writer.proofs.Stores.{fields-stored}
 
--- the number of sets is right exactly where the length that it gives is
-pub even-length : (a b : ℕ) → eqb a b ≡ eqb (18 + setWidth * a) (18 + setWidth * b)
-even-length a b = go (eqb a b) refl
-  where
-    go : (t : Bool) → eqb a b ≡ t → eqb a b ≡ eqb (18 + setWidth * a) (18 + setWidth * b)
-    go true e = e ∙ sym (eq-eqb (18 + setWidth * a) (18 + setWidth * b) (ap (λ (n : ℕ). 18 + setWidth * n) (eqb-true a b e)))
-    go false e = e ∙ sym (ne-eqb (18 + setWidth * a) (18 + setWidth * b) (λ f. eqb-false a b e (omega (arith, f))))
-
 -- the checks of the head and of the following sets of a sheet that is given
 abbrev pub headCheck : Sheet → Check
-headCheck s = checkBy (18 + setWidth * length (s .sets)) (s .states) (s .commands) (s .initial) (s .goal)
+headCheck s = checkBy (Given (length (s .sets))) (s .states) (s .commands) (s .initial) (s .goal)
 
 abbrev pub setsCheck : Sheet → Check
 setsCheck s = verdict Failed Passed (setRows (s .states) setsAt (s .sets))
@@ -47,9 +40,8 @@ module _ {A : Type 0} (refused : Refusal → A) (otherwise : A) (s : Sheet) (roo
   by-checks : verdict refused otherwise (writingRows s room) ≡ onCheck refused (onCheck refused byRoom (setsCheck s)) (headCheck s)
   unfolding writingRows
   by-checks =
-      ap (λ (b : Bool). verdict refused otherwise ((headRows (not b) (s .states) (s .commands) (s .initial) (s .goal) ++ setRows (s .states) setsAt (s .sets)) ++ (roomRow s room ∷ []))) (even-length (length (s .sets)) (s .commands * s .states))
-      ∙ ap (λ (rs : List Row). verdict refused otherwise rs) (append-assoc (headRowsBy (18 + setWidth * length (s .sets)) (s .states) (s .commands) (s .initial) (s .goal)) (setRows (s .states) setsAt (s .sets)) (roomRow s room ∷ []))
-      ∙ checked refused otherwise (headRowsBy (18 + setWidth * length (s .sets)) (s .states) (s .commands) (s .initial) (s .goal)) (setRows (s .states) setsAt (s .sets) ++ (roomRow s room ∷ []))
+      ap (λ (rs : List Row). verdict refused otherwise rs) (append-assoc (headRowsBy (Given (length (s .sets))) (s .states) (s .commands) (s .initial) (s .goal)) (setRows (s .states) setsAt (s .sets)) (roomRow s room ∷ []))
+      ∙ checked refused otherwise (headRowsBy (Given (length (s .sets))) (s .states) (s .commands) (s .initial) (s .goal)) (setRows (s .states) setsAt (s .sets) ++ (roomRow s room ∷ []))
       ∙ ap (λ (a : A). onCheck refused a (headCheck s)) (checked refused otherwise (setRows (s .states) setsAt (s .sets)) (roomRow s room ∷ []))
 
   pub head-fails : (q : Refusal) → headCheck s ≡ Failed q → verdict refused otherwise (writingRows s room) ≡ refused q

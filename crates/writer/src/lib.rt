@@ -5,6 +5,7 @@ use numbers::put_one;
 use sets::Set;
 use sheet::COMMANDS_AT;
 use sheet::Check;
+use sheet::Counted;
 use sheet::GOAL_AT;
 use sheet::INITIAL_AT;
 use sheet::Refusal;
@@ -107,7 +108,7 @@ pub fn write(
     ensures { λ r. ⌜ Wrote (sheetWith states commands (setOf initial) (setOf goal) (now (given .entry))) (now (out .entry)) (now (out .exit)) r ⌝ }
 {
     match check_head(
-        SHORTEST + SET_WIDTH * given.len(),
+        Counted::Given(given.len()),
         states,
         commands,
         initial,

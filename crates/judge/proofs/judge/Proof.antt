@@ -33,13 +33,13 @@ returns c =
     let f = c .before .before in
     let r = f .before .before in
     let a = r .before .before .before .args in
-    by-refusal (a .sheet .now) (a .plan .now) _ (sym (r .read .ensures) ∙ f .f .given .1) (with-set (f .f .given .0 .0) (c .empty .ensures))
+    by-refusal (a .sheet .now) (a .plan .now) _ (sym (r .read .ensures .answer) ∙ f .f .given .1) (with-set (f .f .given .0 .0) (c .empty .ensures))
 
 returns-2 : tie.Need-returns-2
 returns-2 c =
     let r = c .before .before .before .before in
     let a = r .before .before .before .args in
-    by-head (a .sheet .now) (a .plan .now) (c .judge-by .result) (sym (r .read .ensures) ∙ c .before .before .head .given .1) (c .judge-by .ensures)
+    by-head (a .sheet .now) (a .plan .now) (c .judge-by .result) (sym (r .read .ensures .answer) ∙ c .before .before .head .given .1) (c .judge-by .ensures)
 
 pub judge-spec : {M : Type 1} → statement M
 judge-spec =

@@ -12,7 +12,7 @@ read-numbers-requires : tie.Need-read-numbers-requires
 read-numbers-requires c κs = search needs
 
 returns : tie.Need-returns
-returns c = c .read-numbers .ensures ∙ ap readNumbers (c .before .read .ensures)
+returns c = c .read-numbers .ensures ∙ ap readNumbers (c .before .read .ensures .answer)
 
 pub potuchlan-read-spec : {M : Type 1} → statement M
 potuchlan-read-spec = tie.close (tie.spec read-requires read-numbers-requires returns)

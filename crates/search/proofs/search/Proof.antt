@@ -66,11 +66,11 @@ module _ (w : World) where
     λ r. (
       (λ _. tt),
       λ b. (
-        (λ yes. ((λ _. tt), λ z. ((refl, (refl, (refl, tt))), sheet-refused (a .0 .now) (r .1) (r .5) (sym (b .5) ∙ yes) (z .5)))),
+        (λ yes. ((λ _. tt), λ z. ((refl, (refl, (refl, tt))), sheet-refused (a .0 .now) (r .1) (r .5 .answer) (sym (b .5) ∙ yes) (z .5)))),
         (λ no.
             let q : isRefused (r .1) ≡ false = sym (b .5) ∙ no in (
               (λ _. tt),
-              λ h. λ γ. (refl, λ γ₂. (refl, ((λ _. engine-ready (a .0 .now) (r .1) (r .5) q (h .5)), λ z. (refl, λ e. (refl, λ e₂. ((refl, (kept (a .1 .0) e₂, (kept (a .1 .1 .0) e, tt))), engine-done (a .0 .now) (r .1) (r .5) q (h .5) (z .5))))))),
+              λ h. λ γ. (refl, λ γ₂. (refl, ((λ _. engine-ready (a .0 .now) (r .1) (r .5 .answer) q (h .5)), λ z. (refl, λ e. (refl, λ e₂. ((refl, (kept (a .1 .0) e₂, (kept (a .1 .1 .0) e, tt))), engine-done (a .0 .now) (r .1) (r .5 .answer) q (h .5) (z .5))))))),
             )),
       ),
     ),

@@ -12,7 +12,7 @@ use Rattle.numbers.specs.Bytes.{numberAt}
 use Rattle.sheet.specs.Refusals.{stated, readingRows, verdict}
 use Rattle.sheet.specs.Answers.{reading}
 use Rattle.numbers.proofs.Numbers.{numberAt-one}
-use Rattle.sheet.proofs.ReadLaws.{answerBy, reading-on}
+use Rattle.sheet.proofs.ReadLaws.{answerBy, reading-on, refused-bytes, bytes-all}
 use borrow.Author.Needs.{needs}
 use Rattle.sheet.proofs.read.Statement.{statement}
 use Rattle.sheet.proofs.read.Tie as tie
@@ -28,7 +28,7 @@ refused-requires c κs = search needs
 
 returns : tie.Need-returns
 unfolding reading readingRows verdict
-returns c = c .refused .ensures ∙ simp (lt-ltb _ _ (c .before .if1 .taken))
+returns c = record { answer = c .refused .ensures ∙ simp (lt-ltb _ _ (c .before .if1 .taken)); bytes = refused-bytes (c .refused .ensures) }
 
 shared-slice-read-if2 : tie.Need-shared-slice-read-if2
 shared-slice-read-if2 c = search needs
@@ -38,7 +38,10 @@ refused-requires-2 c κs = search needs
 
 returns-2 : tie.Need-returns-2
 unfolding reading readingRows verdict
-returns-2 c = c .refused2 .ensures ∙ simp (le-ltb _ _ (c .before .before .before .if1 .left), numberAt-one 0 (now (c .before .before .before .before .before .args .sheet)) (omega arith), ne-eqb _ _ (c .before .if2 .taken))
+returns-2 c = record {
+  answer = c .refused2 .ensures ∙ simp (le-ltb _ _ (c .before .before .before .if1 .left), numberAt-one 0 (now (c .before .before .before .before .before .args .sheet)) (omega arith), ne-eqb _ _ (c .before .if2 .taken));
+  bytes = refused-bytes (c .refused2 .ensures);
+}
 
 four-requires : tie.Need-four-requires
 four-requires c κs = search needs
@@ -51,7 +54,10 @@ refused-requires-3 c κs = search needs
 
 returns-3 : tie.Need-returns-3
 unfolding reading readingRows verdict
-returns-3 c = c .refused3 .ensures ∙ simp (le-ltb _ _ (c .before .before .before .before .before .if1 .left), version-right (c .before .before .before), ne-eqb _ _ (differs (c .before)))
+returns-3 c = record {
+  answer = c .refused3 .ensures ∙ simp (le-ltb _ _ (c .before .before .before .before .before .if1 .left), version-right (c .before .before .before), ne-eqb _ _ (differs (c .before)));
+  bytes = refused-bytes (c .refused3 .ensures);
+}
 
 refused-requires-4 : tie.Need-refused-requires-4
 refused-requires-4 c κs = search needs
@@ -60,7 +66,10 @@ returns-4 : tie.Need-returns-4
 unfolding reading readingRows verdict
 returns-4 c =
     let t = c .before .before .before in
-    c .refused4 .ensures ∙ simp (le-ltb _ _ (t .before .before .before .if1 .left), version-right (t .before), ← (t .four .ensures .0), eq-eqb _ _ (c .before .before .if3 .left), lt-ltb _ _ (c .before .if4 .taken))
+    record {
+      answer = c .refused4 .ensures ∙ simp (le-ltb _ _ (t .before .before .before .if1 .left), version-right (t .before), ← (t .four .ensures .0), eq-eqb _ _ (c .before .before .if3 .left), lt-ltb _ _ (c .before .if4 .taken));
+      bytes = refused-bytes (c .refused4 .ensures);
+    }
 
 read-stated-requires : tie.Need-read-stated-requires
 read-stated-requires c κs = search needs
@@ -70,7 +79,10 @@ returns-5 c =
     let t = c .before .before .before in
     let l : List ℕ = now (t .before .before .before .before .before .args .sheet) in
     let e : t .four .result ≡ stated l = t .four .ensures .0 in
-    c .read-stated .ensures ∙ ap (λ (n : ℕ). answerBy l n) e ∙ sym (reading-on l (t .before .before .before .if1 .left) (t .before .if2 .left) (omega arith) (omega arith))
+    record {
+      answer = c .read-stated .ensures .0 ∙ ap (λ (n : ℕ). answerBy l n) e ∙ sym (reading-on l (t .before .before .before .if1 .left) (t .before .if2 .left) (omega arith) (omega arith));
+      bytes = record { are-bytes = λ h. bytes-all l (t .four .result) (omega arith) (t .before .if2 .left) (t .four .ensures .2) (c .read-stated .ensures .1 .are-bytes h) };
+    }
 
 pub read-spec : {M : Type 1} → statement M
 read-spec =

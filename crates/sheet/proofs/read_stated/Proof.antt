@@ -1,19 +1,21 @@
 -- `sheet::read_stated` meets its contract: the answer goes by the check of the head and then by the check of the following sets.
-use mathlib.Core.Path.{_≡_, sym, ap, _∙_}
+use mathlib.Core.Path.{_≡_, refl, sym, ap, _∙_}
 use mathlib.Core.List.{List}
-use Prim.Native.Nat.{ℕ, _*_, _≤_}
+use Prim.Native.Nat.{ℕ, _+_, _*_, _≤_}
 use native.Mathlib.Nat.{mul-le-mul}
 use native.Mathlib.Omega.{arith}
 use denote.Ref.{now}
-use Rattle.sheet.specs.Sheet.{sheetIn}
+use borrow.Author.Tests.{eqb-true, not-false}
+use Rattle.sheet.specs.Sheet.{setWidth, sheetIn}
 use Rattle.sheet.specs.Answers.{headOf, headWith}
 use Rattle.sheet.specs.declared.Head.{Head}
+use Rattle.sheet.specs.declared.Counted.the-variants.{Stated}
 use Rattle.sheet.specs.declared.Check.{Check}
 use Rattle.sheet.specs.declared.Check.the-variants.{Passed}
 use Rattle.sheet.specs.declared.Reading.the-variants.{Accepted, Refused}
 use Rattle.numbers.proofs.Numbers.{numberAt-one}
 use Rattle.sheet.proofs.Rows.{onCheck}
-use Rattle.sheet.proofs.ReadLaws.{checkOf, answerBy, answerBySets, by-head, by-sets, head-even}
+use Rattle.sheet.proofs.ReadLaws.{checkOf, answerBy, answerBySets, by-head, by-sets, head-even, refused-bytes, bytes-stated}
 use borrow.Author.Needs.{needs}
 use Rattle.sheet.proofs.read_stated.Statement.{statement}
 use Rattle.sheet.proofs.read_stated.Tie as tie
@@ -33,17 +35,22 @@ unfolding sheetIn
 same c = λ i. record {
   states = (c .before .before .before .before .before .wide .ensures .0 ∙ sym (numberAt-one 5 (L c) (omega arith))) i;
   commands = (c .before .before .before .wide2 .ensures .0 ∙ sym (numberAt-one 6 (L c) (omega arith))) i;
-  initial = (c .before .before .set-in .ensures) i;
-  goal = (c .before .set-in2 .ensures) i;
+  initial = (c .before .before .set-in .ensures .0) i;
+  goal = (c .before .set-in2 .ensures .0) i;
 }
 
-bytes : (c : tie.After-check-head) → c .before .before .before .wide2 .result * c .before .before .before .before .before .wide .result ≤ 255 * 255
-bytes c = mul-le-mul {n₂ = 255} {m₂ = 255} (omega arith) (omega arith)
+product : (c : tie.After-check-head) → c .before .before .before .wide2 .result * c .before .before .before .before .before .wide .result ≤ 255 * 255
+product c = mul-le-mul {n₂ = 255} {m₂ = 255} (omega arith) (omega arith)
 
-head-passed : (c : tie.After-enum-told) → checkOf (N (c .before .before)) (H (c .before .before)) ≡ Passed
+head-passed : (c : tie.After-enum-told) → checkOf (Stated (N (c .before .before))) (H (c .before .before)) ≡ Passed
 head-passed c = sym (c .before .before .check-head .ensures) ∙ c .enum-told .given .1
 
--- where the head passed
+-- where the head passed: the stated length is that of so many sets
+stated-is : (c : tie.After-enum-told) → N (c .before .before) ≡ 18 + setWidth * (H (c .before .before) .commands * H (c .before .before) .states)
+stated-is c =
+    let h : Head = H (c .before .before) in
+    eqb-true (N (c .before .before)) (18 + setWidth * (h .commands * h .states)) (not-false _ (head-even (Stated (N (c .before .before))) (h .states) (h .commands) _ _ (head-passed c)))
+
 passed : (c : tie.After-enum-told) → answerBy (L (c .before .before)) (N (c .before .before)) ≡ answerBySets (L (c .before .before))
 passed c =
     let k = c .before .before in
@@ -77,11 +84,11 @@ enum-told : tie.Need-enum-told
 enum-told c = search needs
 
 mul-check-sets : tie.Need-mul-check-sets
-mul-check-sets c = omega (arith, bytes (c .before .before))
+mul-check-sets c = omega (arith, product (c .before .before))
 
 check-sets-requires : tie.Need-check-sets-requires
 check-sets-requires c κs =
-    omega (arith, head-even (N (c .before .before)) (H (c .before .before) .states) (H (c .before .before) .commands) _ _ (head-passed c))
+    omega (arith, stated-is c)
 
 enum-known-r-2 : tie.Need-enum-known-r-2
 enum-known-r-2 c = search needs
@@ -92,19 +99,28 @@ enum-told-2 c = search needs
 returns : tie.Need-returns
 returns c =
     let k = c .before .before .before in
-    sym (by-head (L k) (H k) (same k) (N k) (k .check-head .result) (k .check-head .ensures) ∙ ap (λ (o : Check). onCheck Refused (answerBySets (L k)) o) (c .before .r .given .1))
+    (sym (by-head (L k) (H k) (same k) (N k) (k .check-head .result) (k .check-head .ensures) ∙ ap (λ (o : Check). onCheck Refused (answerBySets (L k)) o) (c .before .r .given .1)), refused-bytes refl)
 
 returns-2 : tie.Need-returns-2
 returns-2 c =
     let m = c .before .before .before in
     let k = m .before .before .before in
-    sym (passed (m .before) ∙ by-sets (L k) (H k) (same k) (m .check-sets .result) (m .check-sets .ensures) ∙ ap (λ (o : Check). onCheck Refused (Accepted (H k)) o) (c .before .r2 .given .1))
+    (
+      sym (passed (m .before) ∙ by-sets (L k) (H k) (same k) (m .check-sets .result) (m .check-sets .ensures .0) ∙ ap (λ (o : Check). onCheck Refused (Accepted (H k)) o) (c .before .r2 .given .1)),
+      refused-bytes refl,
+    )
 
 returns-3 : tie.Need-returns-3
 returns-3 c =
     let m = c .before .before in
     let k = m .before .before .before in
-    sym (passed (m .before) ∙ by-sets (L k) (H k) (same k) (m .check-sets .result) (m .check-sets .ensures) ∙ ap (λ (o : Check). onCheck Refused (Accepted (H k)) o) (c .enum-told2 .given .1))
+    let w = k .before .before .before .before .before in
+    (
+      sym (passed (m .before) ∙ by-sets (L k) (H k) (same k) (m .check-sets .result) (m .check-sets .ensures .0) ∙ ap (λ (o : Check). onCheck Refused (Accepted (H k)) o) (c .enum-told2 .given .1)),
+      record { are-bytes = λ e. bytes-stated (L k) (H k .commands * H k .states) (stated-is (m .before)) (omega arith)
+          (omega (arith, w .wide .ensures)) (omega (arith, k .before .before .before .wide2 .ensures)) (k .before .before .set-in .ensures .1) (k .before .set-in2 .ensures .1)
+          (m .check-sets .ensures .1 (c .enum-told2 .given .1)) },
+    )
 
 pub read-stated-spec : {M : Type 1} → statement M
 read-stated-spec =

@@ -12,7 +12,7 @@ of-word-requires : tie.Need-of-word-requires
 of-word-requires c κs = search needs
 
 returns : tie.Need-returns
-returns c = c .of-word .ensures ∙ ap setFor (c .before .eight .ensures)
+returns c = (c .of-word .ensures ∙ ap setFor (c .before .eight .ensures .0), c .before .eight .ensures .1)
 
 pub set-in-spec : {M : Type 1} → statement M
 set-in-spec = tie.close (tie.spec eight-requires of-word-requires returns)

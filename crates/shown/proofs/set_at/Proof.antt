@@ -24,7 +24,7 @@ empty-requires c κs = search needs
 returns : tie.Need-returns
 returns c =
     let l : List ℕ = now (c .before .before .shown-at .result) in
-    c .set-in .ensures ∙ ap (λ (b : List ℕ). setFor (number b)) (ap (λ (k : ℕ). take k l) (sym (c .before .if1 .taken)) ∙ take-length l ∙ c .before .before .shown-at .ensures .bytes)
+    c .set-in .ensures .0 ∙ ap (λ (b : List ℕ). setFor (number b)) (ap (λ (k : ℕ). take k l) (sym (c .before .if1 .taken)) ∙ take-length l ∙ c .before .before .shown-at .ensures .bytes)
 
 returns-2 : tie.Need-returns-2
 unfolding number

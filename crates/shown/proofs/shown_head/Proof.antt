@@ -12,7 +12,7 @@ head-of-requires : tie.Need-head-of-requires
 head-of-requires c κs = search needs
 
 returns : tie.Need-returns
-returns c = c .head-of .ensures ∙ ap shownHead (c .before .read .ensures)
+returns c = c .head-of .ensures ∙ ap shownHead (c .before .read .ensures .answer)
 
 pub shown-head-spec : {M : Type 1} → statement M
 shown-head-spec = tie.close (tie.spec read-requires head-of-requires returns)

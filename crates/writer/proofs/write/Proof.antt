@@ -1,14 +1,16 @@
 -- `writer::write` meets its contract: answer and output go by the check of the head, then by the check of the following sets, then by the storing.
 use mathlib.Core.Path.{_≡_, sym, _∙_}
 use mathlib.Core.List.{List, _++_}
-use Prim.Native.Nat.{ℕ, _+_, _*_}
-use native.Mathlib.Omega.{arith}
+use Prim.Native.Nat.{ℕ, _*_}
 use denote.Ref.{now}
 use lib.ListN.{length, drop}
+use borrow.Author.Tests.{eqb-true, not-false}
 use Rattle.sets.specs.Words.{setOf}
-use Rattle.sheet.specs.Sheet.{Sheet, sheetWith, encode, lengthFor, setWidth}
+use Rattle.sheet.specs.Sheet.{Sheet, sheetWith, encode, lengthFor}
 use Rattle.writer.specs.declared.Writing.{Writing}
 use Rattle.writer.specs.declared.Writing.the-variants.{Written, Refused}
+use Rattle.sheet.specs.declared.Counted.{Counted}
+use Rattle.sheet.specs.declared.Counted.the-variants.{Given}
 use Rattle.sheet.specs.declared.Check.the-variants.{Passed, Failed}
 use Rattle.sheet.proofs.ReadLaws.{head-even, head-fits}
 use Rattle.writer.proofs.WriteLaws.{headCheck, setsCheck, head-fails, sets-fail, both-pass}
@@ -45,12 +47,6 @@ sets-passed c = sym (c .before .before .check-given .ensures) ∙ c .enum-told2 
 sets-failed : (c : tie.After-r2) → setsCheck (S (c .before .before .before .before .before .before .before .before)) ≡ Failed (c .r2 .given .0 .0)
 sets-failed c = sym (c .before .before .check-given .ensures) ∙ c .r2 .given .1
 
-mul-check-head : tie.Need-mul-check-head
-mul-check-head c = search needs
-
-add-check-head : tie.Need-add-check-head
-add-check-head c = search needs
-
 check-head-requires : tie.Need-check-head-requires
 check-head-requires c κs = search needs
 
@@ -73,8 +69,11 @@ put-sheet-requires : tie.Need-put-sheet-requires
 put-sheet-requires c κs =
     let t = c .before .before .before .before in
     let g : Sheet = S (t .before .before .before .before .before) in
-    let n : ℕ = 18 + setWidth * length (g .sets) in
-    (omega (arith, head-even n (g .states) (g .commands) (g .initial) (g .goal) (head-passed t)), head-fits n (g .states) (g .commands) (g .initial) (g .goal) (head-passed t))
+    let n : Counted = Given (length (g .sets)) in
+    (
+      eqb-true (length (g .sets)) (g .commands * g .states) (not-false _ (head-even n (g .states) (g .commands) (g .initial) (g .goal) (head-passed t))),
+      head-fits n (g .states) (g .commands) (g .initial) (g .goal) (head-passed t),
+    )
 
 returns : tie.Need-returns
 returns c =
@@ -113,8 +112,6 @@ pub write-spec : {M : Type 1} → statement M
 write-spec =
     tie.close
     (tie.spec
-    mul-check-head
-    add-check-head
     check-head-requires
     enum-known-r
     enum-told
