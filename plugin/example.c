@@ -27,7 +27,7 @@ _Static_assert(offsetof(struct potuchlan_node, command) == 12, "command at 12");
 
 static void show_head(void)
 {
-    uint64_t a[POTUCHLAN_READ_NUMBERS];
+    uint64_t a[POTUCHLAN_READ_NUMBERS] = {0};
     potuchlan_read(sheet, sizeof sheet, a);
     printf("read: %" PRIu64 ", states %" PRIu64 ", commands %" PRIu64 ", initial %" PRIu64 ", goal %" PRIu64 "\n",
            a[POTUCHLAN_NUMBER], a[POTUCHLAN_READ_STATES], a[POTUCHLAN_READ_COMMANDS], a[POTUCHLAN_READ_INITIAL],
@@ -38,7 +38,7 @@ static void show_head(void)
 
 static void show_following(size_t command, size_t state)
 {
-    uint64_t a[POTUCHLAN_FOLLOWING_NUMBERS];
+    uint64_t a[POTUCHLAN_FOLLOWING_NUMBERS] = {0};
     potuchlan_following(sheet, sizeof sheet, command, state, a);
     printf("following set of command %zu and state %zu: offset %" PRIu64 ", length %" PRIu64 "\n", command, state,
            a[POTUCHLAN_FOLLOWING_OFFSET], a[POTUCHLAN_FOLLOWING_LENGTH]);
@@ -46,7 +46,7 @@ static void show_following(size_t command, size_t state)
 
 static void show_judged(const char *name, const uint8_t *plan, size_t length)
 {
-    uint64_t a[POTUCHLAN_JUDGE_NUMBERS];
+    uint64_t a[POTUCHLAN_JUDGE_NUMBERS] = {0};
     potuchlan_judge(sheet, sizeof sheet, plan, length, a);
     printf("judge %s: %" PRIu64 ", place %" PRIu64 ", set %" PRIu64 ", states left %" PRIu64 "\n", name,
            a[POTUCHLAN_NUMBER], a[POTUCHLAN_PLACE], a[POTUCHLAN_JUDGE_SET], a[POTUCHLAN_JUDGE_LEFT]);
@@ -68,7 +68,7 @@ static void show_search(size_t places)
 {
     struct potuchlan_node store[4];
     uint8_t plan[4];
-    uint64_t a[POTUCHLAN_SEARCH_NUMBERS];
+    uint64_t a[POTUCHLAN_SEARCH_NUMBERS] = {0};
     memset(store, 0, sizeof store);
     memset(plan, 0, sizeof plan);
     printf("room %zu, ", places);
@@ -82,7 +82,7 @@ static void show_search(size_t places)
 static void show_search_here(void)
 {
     uint8_t plan[4] = {0, 0, 0, 0};
-    uint64_t a[POTUCHLAN_SEARCH_NUMBERS];
+    uint64_t a[POTUCHLAN_SEARCH_NUMBERS] = {0};
     potuchlan_search_here(sheet, sizeof sheet, plan, sizeof plan, a);
     show_searched("search in a store of its own", a, plan);
     potuchlan_search_here(sheet, sizeof sheet, plan, 0, a);
@@ -93,7 +93,7 @@ static void show_written(void)
 {
     static const uint64_t sets[] = {2, 1, 1, 1};
     uint8_t out[sizeof sheet + 1];
-    uint64_t a[POTUCHLAN_WRITE_NUMBERS];
+    uint64_t a[POTUCHLAN_WRITE_NUMBERS] = {0};
     memset(out, 77, sizeof out);
     potuchlan_write(2, 2, 3, 1, sets, 4, out, sizeof out, a);
     printf("write: %" PRIu64 ", bytes %" PRIu64 ", %s, byte after it %d\n", a[POTUCHLAN_NUMBER],

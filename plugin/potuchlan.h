@@ -13,14 +13,17 @@
  *   - A pointer is aligned for its element: 1 byte for uint8_t, 8 bytes for uint64_t and for struct potuchlan_node.
  *   - A buffer that a function writes overlaps no other buffer of the same call. Two buffers that are only read may
  *     overlap, and may be the same.
- *   - Buffers that are written are initialised: a function leaves the parts that it does not fill as they were.
+ *   - Buffers that are written are initialised, the arrays for answers too: a function leaves the parts that it does
+ *     not fill as they were.
+ *   - While a call runs, no other thread changes a buffer that was lent to it, or reads one that it writes.
+ *   - A number of elements is that of the buffer, and no buffer has 2^63 bytes or more.
  *   - Nothing else is asked. Bad content, and buffers that are too short, get a refusal and no harm.
  *
  * What a caller gets
  *   - Numbers, in an array that the caller lends. All of the array is written, whatever the answer.
  *   - No pointer is kept after a call returns, nothing is allocated, and there is no state between calls, so calls in
- *     several threads do not disturb each other. What is handed back is offsets and lengths in the caller's own
- *     buffers, which are good for as long as these buffers are.
+ *     several threads, each with buffers of its own to be written, do not disturb each other. What is handed back is
+ *     offsets and lengths in the caller's own buffers, which are good for as long as these buffers are.
  *
  * Sets: a set of states is a 64-bit number whose bit s stands for state s.
  *
@@ -145,7 +148,8 @@ uint8_t potuchlan_better(const uint8_t *sheet, size_t sheet_length, const uint8_
 
 /*
  * One place of a search's store: a set of states, the place of the set that it came from, and the command that led to
- * it. Place 0 holds the initial set, with parent 0 and command 255. 16 bytes, of which the last 3 are padding.
+ * it. Place 0 holds the initial set, with parent 0 and command 255. 16 bytes, of which the last 3 are padding: where a
+ * record is written nothing is promised of them, and where a place stays as it was they stay too.
  */
 struct potuchlan_node {
     uint64_t set;

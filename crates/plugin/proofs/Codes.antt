@@ -41,7 +41,9 @@ use Rattle.search.specs.declared.Verdict.the-variants as search-is
 use Rattle.search.specs.declared.Answer.{Answer}
 use Rattle.search.proofs.SheetLaws.{sheet-ready}
 use Rattle.search.proofs.Unique.{done-value}
-use Rattle.plugin.specs.Boundary.{readNumbers, writeNumbers, verdictNumber, JudgedInto}
+use Rattle.sheet.specs.Answers.{valuesOf as readNumbers}
+use Rattle.writer.specs.Written.{valuesOf as writeNumbers}
+use Rattle.plugin.specs.Boundary.{verdictNumber, JudgedInto}
 
 -- ---- reading and writing
 

@@ -5,27 +5,12 @@ use mathlib.Core.List.{List, [], _∷_}
 use Prim.Native.Nat.{ℕ}
 use lib.ListN.{length}
 use Rattle.meaning.specs.Answers as answers
-use Rattle.sets.specs.Words.{setOf}
 use Rattle.shown.specs.Following.{following, followingFrom}
-use Rattle.sheet.specs.declared.Reading.{Reading}
-use Rattle.sheet.specs.declared.Reading.the-variants as reading-is
-use Rattle.writer.specs.declared.Writing.{Writing}
-use Rattle.writer.specs.declared.Writing.the-variants as writing-is
 use Rattle.judge.specs.Verdicts.{valuesOf, JudgedBy}
 use Rattle.judge.specs.declared.Judged.{Judged}
 use Rattle.store.specs.declared.Node.{Node}
 use Rattle.search.specs.Done.{verdictOf, SheetSearched, SearchedHere}
 use Rattle.search.specs.declared.Answer.{Answer}
-
--- 0 for an accepted sheet and the head, or the refusal's number and place
-abbrev pub readNumbers : Reading → List ℕ
-readNumbers (reading-is.Accepted h) = 0 ∷ 0 ∷ h .states ∷ h .commands ∷ setOf (h .initial) ∷ setOf (h .goal) ∷ []
-readNumbers (reading-is.Refused f) = f .number ∷ f .place ∷ 0 ∷ 0 ∷ 0 ∷ 0 ∷ []
-
--- 0 for a sheet that is written and its bytes, or the refusal's number and place
-abbrev pub writeNumbers : Writing → List ℕ
-writeNumbers (writing-is.Written n) = 0 ∷ 0 ∷ n ∷ []
-writeNumbers (writing-is.Refused f) = f .number ∷ f .place ∷ 0 ∷ []
 
 -- where the bytes of a following set begin in the sheet, and how many they are
 abbrev pub followingNumbers : List ℕ → ℕ → ℕ → List ℕ

@@ -14,7 +14,9 @@ ghost use Rattle.sheet.specs.Answers.{reading};
 ghost use Rattle.writer.specs.Written.{writing, written};
 ghost use Rattle.judge.specs.Verdicts.{valuesOf, ChoiceOf};
 ghost use Rattle.search.specs.Done.{verdictOf};
-ghost use Rattle.plugin.specs.Boundary.{verdictNumber, readNumbers, writeNumbers, followingNumbers, judgedNumbers, searchNumbers, JudgedInto, SearchedInto, SearchedHereInto};
+ghost use Rattle.sheet.specs.Answers.{valuesOf as readNumbers};
+ghost use Rattle.writer.specs.Written.{valuesOf as writeNumbers};
+ghost use Rattle.plugin.specs.Boundary.{verdictNumber, followingNumbers, judgedNumbers, searchNumbers, JudgedInto, SearchedInto, SearchedHereInto};
 
 // The numbers of an answer.
 fn read_numbers(r: Reading) -> [u64; 6]

@@ -1,9 +1,9 @@
 -- What reading answers by the table of refusals, and the head of an answer.
 use mathlib.Core.Path.{_≡_}
-use mathlib.Core.List.{List}
+use mathlib.Core.List.{List, [], _∷_}
 use Prim.Native.Nat.{ℕ}
 use Rattle.numbers.specs.Bytes.{AreBytes}
-use Rattle.sets.specs.Words.{Value, setFor}
+use Rattle.sets.specs.Words.{Value, setOf, setFor}
 use Rattle.sheet.specs.Sheet.{Sheet, sheetIn}
 use Rattle.sheet.specs.Refusals.{verdict, readingRows}
 use Rattle.sheet.specs.declared.Head.{Head}
@@ -19,6 +19,11 @@ headOf s = headWith (s .states) (s .commands) (setFor (s .initial)) (setFor (s .
 
 unfoldable pub reading : List ℕ → Reading
 reading l = verdict Refused (Accepted (headOf (sheetIn l))) (readingRows l)
+
+-- the scope's values for each case of a reading: 0 for an accepted sheet, a place of 0, and the head; or the refusal's number and place
+abbrev pub valuesOf : Reading → List ℕ
+valuesOf (Accepted h) = 0 ∷ 0 ∷ h .states ∷ h .commands ∷ setOf (h .initial) ∷ setOf (h .goal) ∷ []
+valuesOf (Refused f) = f .number ∷ f .place ∷ 0 ∷ 0 ∷ 0 ∷ 0 ∷ []
 
 -- the elements of l are bytes where r accepts
 pub record BytesIf (r : Reading) (l : List ℕ) : Type 0 where

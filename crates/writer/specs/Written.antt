@@ -31,6 +31,11 @@ writing s room = writingBy (writingRows s room) s
 abbrev pub written : Sheet → List ℕ → List ℕ
 written s out = writtenBy (writingRows s (length out)) s out
 
+-- the scope's values for each case: 0 for a sheet that is written, a place of 0, and its bytes; or the refusal's number and place
+abbrev pub valuesOf : Writing → List ℕ
+valuesOf (Written n) = 0 ∷ 0 ∷ n ∷ []
+valuesOf (Refused f) = f .number ∷ f .place ∷ 0 ∷ []
+
 -- what writing promises: its answer, and the whole output
 pub record Wrote (s : Sheet) (before after : List ℕ) (r : Writing) : Type 0 where
   pub answer : r ≡ writing s (length before)

@@ -1,6 +1,6 @@
 -- `plugin::potuchlan_read` meets its contract: the numbers are those of the reading.
 use mathlib.Core.Path.{ap, _∙_}
-use Rattle.plugin.specs.Boundary.{readNumbers}
+use Rattle.sheet.specs.Answers.{valuesOf as readNumbers}
 use borrow.Author.Needs.{needs}
 use Rattle.plugin.proofs.potuchlan_read.Statement.{statement}
 use Rattle.plugin.proofs.potuchlan_read.Tie as tie

@@ -7,7 +7,7 @@ use Rattle.sets.proofs.Values.{stands-for}
 use Rattle.sheet.specs.Sheet.{sheetWith}
 use Rattle.writer.specs.Written.{Wrote}
 use Rattle.writer.specs.declared.Writing.{Writing}
-use Rattle.plugin.specs.Boundary.{writeNumbers}
+use Rattle.writer.specs.Written.{valuesOf as writeNumbers}
 use borrow.Author.Needs.{needs}
 use Rattle.plugin.proofs.potuchlan_write.Statement.{statement}
 use Rattle.plugin.proofs.potuchlan_write.Tie as tie

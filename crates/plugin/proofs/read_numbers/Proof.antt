@@ -3,7 +3,7 @@ use mathlib.Core.Path.{sym, ap, ap₂, _∙_}
 use mathlib.Core.List.{List, [], _∷_}
 use Prim.Native.Nat.{ℕ}
 use Rattle.sheet.specs.declared.Head.{Head}
-use Rattle.plugin.specs.Boundary.{readNumbers}
+use Rattle.sheet.specs.Answers.{valuesOf as readNumbers}
 use borrow.Author.Needs.{needs}
 use Rattle.plugin.proofs.read_numbers.Statement.{statement}
 use Rattle.plugin.proofs.read_numbers.Tie as tie

@@ -1,6 +1,6 @@
 -- `plugin::write_numbers` meets its contract, by cases on the answer of writing.
 use mathlib.Core.Path.{sym, ap}
-use Rattle.plugin.specs.Boundary.{writeNumbers}
+use Rattle.writer.specs.Written.{valuesOf as writeNumbers}
 use borrow.Author.Needs.{needs}
 use Rattle.plugin.proofs.write_numbers.Statement.{statement}
 use Rattle.plugin.proofs.write_numbers.Tie as tie
