@@ -99,7 +99,6 @@ fn put_field(out: &mut [u8], at: usize, n: u64) -> usize
 }
 
 // Some fields one after another, and some commands.
-// Fields one after another, and commands.
 pub fn put_fields(out: &mut [u8], at: usize, fields: &[u64]) -> usize
     requires { ⌜ at + length (spaced (now fields)) ≤ length (now out) ⌝ }
     ensures { λ r. ⌜ r ≡ at + length (spaced (now (fields .entry))) ⌝ }

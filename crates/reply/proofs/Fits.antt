@@ -1,4 +1,4 @@
--- Every line that is printed has at most 12,300 bytes, so a buffer of that many always suffices; the program lends a longer one. And LONG is never printed.
+-- Every line that is printed has at most 12,300 bytes, so a buffer of that many, which is what the program lends, always suffices. And LONG is never printed.
 -- The idea: a store of 4,096 places leaves a count of at most 4,096, a plan is shorter than the count, and its commands are below 32. A sheet is refused by a number
 -- of at most 8, at a place below 16,400.
 use mathlib.Core.Path.{_≡_, refl, sym, ap, _∙_, subst}
