@@ -10,6 +10,7 @@ use lib.ListN.{length}
 use Rattle.meaning.specs.Sets.{Tells}
 use Rattle.meaning.specs.Runs as runs
 use Rattle.meaning.specs.Answers as answers
+use Rattle.meaning.proofs.Agreement.{never-fails-iff-good}
 use Rattle.meaning.proofs.JudgeLaws.{judged-good, refused-not-good}
 use Rattle.sets.specs.Words.{setOf}
 use Rattle.sheet.specs.Sheet.{domainIn}
@@ -39,6 +40,17 @@ module _ {l p : List ℕ} {j : Judged} (u : JudgedBy l p j) where
       go : (r : Reading) → reading l ≡ r → j .verdict ≡ Good → GoodFor l p
       go (reading-is.Accepted h) e v = record { head = h; accepted = e; good = by-head h e .0 (ap verdictOf v) }
       go (reading-is.Refused f) e v = absurd (refused-not-good (ap (λ (i : Judged). verdictOf (i .verdict)) (sym (u .refused e)) ∙ ap verdictOf v))
+
+  -- the same in the product's words: the sheet is accepted, no run gets stuck, and every full run ends in the goal
+  pub good-iff-never-fails : (j .verdict ≡ Good) ↔ ((h : Head) × (reading l ≡ reading-is.Accepted h) × runs.NeverFails (domainIn l) (setOf (h .initial)) (setOf (h .goal)) p)
+  good-iff-never-fails = (
+    λ v. let g = good-iff-runs .0 v in (g .head, g .accepted, same (g .head) (g .accepted) .1 (g .good)),
+    λ (h, e, n). good-iff-runs .1 (record { head = h; accepted = e; good = same h e .0 n }),
+  )
+    where
+      same : (h : Head) → reading l ≡ reading-is.Accepted h
+          → runs.NeverFails (domainIn l) (setOf (h .initial)) (setOf (h .goal)) p ↔ runs.Good (domainIn l) (setOf (h .initial)) (setOf (h .goal)) p
+      same h e = never-fails-iff-good (domainIn l) (domain-well-formed l h e) (initial-start l h e .within)
 
   pub says-good : j .verdict ≡ Good → Tells true (GoodFor l p)
   says-good e = record { if-true = λ _. good-iff-runs .0 e; if-false = λ q. absurd (true≢false q) }

@@ -5,7 +5,7 @@ use mathlib.Core.Logic.{_⊎_, inl, inr}
 use mathlib.Core.Option.{Option, some}
 use mathlib.Core.List.{List, [], _∷_, _++_, append-assoc, append-nil}
 use Prim.Native.Nat.{ℕ, zero, suc, _≤_, _<_, zero-le, suc-le-suc}
-use native.Mathlib.Nat.{not-suc-le-zero, lt-trans, le-refl, lt-irrefl, lt-of-lt-of-le, eq-or-lt-of-le, le-of-suc-le-suc, le-trans, le-of-eq, min-le-left}
+use native.Mathlib.Nat.{not-suc-le-zero, lt-trans, le-refl, lt-irrefl, lt-of-lt-of-le, lt-of-le-of-lt, eq-or-lt-of-le, le-of-suc-le-suc, le-trans, le-of-eq, min-le-left}
 use native.Mathlib.Omega.{arith}
 use lib.ListN.{length, take, length-take}
 use lib.Seq.{length-take-le, take-all}
@@ -108,6 +108,12 @@ module _ (next : ℕ → ℕ → Option ℕ) (init : ℕ) where
       no-gap = λ a f h. (let r = earlier (at-take c a) f h in
           record { place = r .0; entry = _; at-place = take-at (lt-trans (r .1) (take-lt l c a)) (r .2); its-set = refl });
     }
+
+  -- place 0 of every listing is there: it is the initial set, with the empty sequence
+  pub first-place-is-start : {l : List Entry} → Listing next init l → At l 0 (record { set = init; seq = [] })
+  first-place-is-start {l} s =
+      let z = lt-at l zero (lt-of-le-of-lt zero-le (at-lt (s .complete .lists (first-nil .gives) .at-place))) in
+      subst (λ (e : Entry). At l zero e) (place-zero (s .prefix) (z .1)) (z .1)
 
   -- ---- there is one listing
 

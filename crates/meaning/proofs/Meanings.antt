@@ -5,7 +5,7 @@ use mathlib.Core.Logic.{_⊎_, inl, inr, ⊎-elim, _≢_}
 use mathlib.Core.List.{List}
 use Prim.Native.Nat.{ℕ, _-_, _^_, _≤_, _<_, suc-le-suc}
 use native.Mathlib.Omega.{arith}
-use lib.ListN.{length}
+use lib.ListN.{length, take}
 use lib.Pow.{pow-mono}
 use Rattle.meaning.proofs.Tests.{clash}
 use Rattle.meaning.specs.Sets.{_⊆_}
@@ -25,7 +25,7 @@ use Rattle.meaning.proofs.Enumerated.{domain-length, listing-correct}
 use Rattle.meaning.proofs.JudgeLaws.{refused-inj}
 use Rattle.meaning.proofs.StoreLaws.{nodes-stored, stores-unique}
 use Rattle.meaning.proofs.SearchLaws as answers
-use Rattle.meaning.proofs.SearchLaws.{Answered, answered, answers-unique, answer-meets, count-fits}
+use Rattle.meaning.proofs.SearchLaws.{none-take, Answered, answered, answers-unique, answer-meets, count-fits}
 
 -- ---- the verdicts are told apart
 
@@ -134,15 +134,15 @@ module _ (D : Domain) (ok : WellFormed D) (x : ℕ) (st : Start D x) (g : ℕ) w
           go (answers.no-plan m h f) = no-good (u .is-listing) m
           go (answers.no-room m h f) = absurd (none-not-refused (sym (says f e)))
 
-      -- 13 is given only where the listing goes on beyond the room
-      pub no-room-means : r .verdict ≡ refused 13 → (r .count ≡ c) × (c < length (u .listing))
+      -- 13 is given only where the listing goes on beyond the room, and no set that has a place is inside the goal
+      pub no-room-means : r .verdict ≡ refused 13 → (r .count ≡ c) × (c < length (u .listing)) × NoneInside g (take c (u .listing))
       no-room-means e = go case
         where
-          go : Answered g (u .listing) c b r → (r .count ≡ c) × (c < length (u .listing))
+          go : Answered g (u .listing) c b r → (r .count ≡ c) × (c < length (u .listing)) × NoneInside g (take c (u .listing))
           go (answers.plan a h q f) = absurd (plan-not-refused (says f e))
           go (answers.too-long a h q f) = absurd (refusals-apart (sym (says f e)))
           go (answers.no-plan m h f) = absurd (none-not-refused (says f e))
-          go (answers.no-room m h f) = (ap (λ (s : Searched). s .count) f, h)
+          go (answers.no-room m h f) = (ap (λ (s : Searched). s .count) f, h, none-take g (u .listing) c m)
 
       -- a plan is shorter than the count
       pub plan-shorter : (r .verdict ≡ plan) ⊎ (r .verdict ≡ refused 14) → r .plan-length < r .count

@@ -79,7 +79,7 @@ module _ (g : ℕ) where
     none-before = λ j f b u. a .none-before j f b (at-take c u);
   }
 
-  none-take : (l : List Entry) (c : ℕ) → ((k : ℕ) (e : Entry) → FirstInside g l k e → c ≤ k) → NoneInside g (take c l)
+  pub none-take : (l : List Entry) (c : ℕ) → ((k : ℕ) (e : Entry) → FirstInside g l k e → c ≤ k) → NoneInside g (take c l)
   none-take l c h k e u i = go (inside-cases l)
     where
       go : ((k : ℕ) × (e : Entry) × FirstInside g l k e) ⊎ NoneInside g l → ⊥
