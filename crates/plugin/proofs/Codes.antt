@@ -21,6 +21,7 @@ use Rattle.sets.specs.Words.{setOf}
 use Rattle.sheet.specs.Sheet.{Sheet, domainIn}
 use Rattle.sheet.specs.Answers.{reading}
 use Rattle.writer.specs.Written.{writing}
+use Rattle.sheet.specs.declared.Head.{Head}
 use Rattle.sheet.specs.declared.Refusal.{Refusal}
 use Rattle.sheet.specs.declared.Reading.{Reading}
 use Rattle.sheet.specs.declared.Reading.the-variants as reading-is
@@ -43,21 +44,31 @@ use Rattle.search.proofs.SheetLaws.{sheet-ready}
 use Rattle.search.proofs.Unique.{done-value}
 use Rattle.sheet.specs.Answers.{valuesOf as readNumbers}
 use Rattle.writer.specs.Written.{valuesOf as writeNumbers}
-use Rattle.plugin.specs.Boundary.{verdictNumber, JudgedInto}
+use Rattle.plugin.specs.Boundary.{verdictNumber, searchNumbers, JudgedInto, SearchedInto, SearchedHereInto}
 
 -- ---- reading and writing
 
--- the first number is 0 for no refused sheet
-pub read-zero : (l : List ℕ) (f : Refusal) → reading l ≡ reading-is.Refused f → ¬ (getD (readNumbers (reading l)) 0 0 ≡ 0)
-read-zero l f q z =
-    let e : getD (readNumbers (reading l)) 0 0 ≡ f .number = ap (λ (r : Reading). getD (readNumbers r) 0 0) q in
-    omega (arith, e, z, reading-gives l f q .0)
+-- the first number is 0 exactly where the sheet is accepted
+pub read-zero : (l : List ℕ) → (getD (readNumbers (reading l)) 0 0 ≡ 0) ↔ ((h : Head) × (reading l ≡ reading-is.Accepted h))
+read-zero l = (go (reading l) refl, λ (h, e). first e)
+  where
+    first : {r : Reading} → reading l ≡ r → getD (readNumbers (reading l)) 0 0 ≡ getD (readNumbers r) 0 0
+    first e = ap (λ (r : Reading). getD (readNumbers r) 0 0) e
 
--- nor for a sheet that is not written
-pub write-zero : (s : Sheet) (room : ℕ) (f : Refusal) → writing s room ≡ writing-is.Refused f → ¬ (getD (writeNumbers (writing s room)) 0 0 ≡ 0)
-write-zero s room f q z =
-    let e : getD (writeNumbers (writing s room)) 0 0 ≡ f .number = ap (λ (r : Writing). getD (writeNumbers r) 0 0) q in
-    omega (arith, e, z, writing-gives s room f q .0)
+    go : (r : Reading) → reading l ≡ r → getD (readNumbers (reading l)) 0 0 ≡ 0 → (h : Head) × (reading l ≡ reading-is.Accepted h)
+    go (reading-is.Accepted h) e z = (h, e)
+    go (reading-is.Refused f) e z = absurd (omega (arith, sym (first e) ∙ z, reading-gives l f e .0))
+
+-- and exactly where it is written
+pub write-zero : (s : Sheet) (room : ℕ) → (getD (writeNumbers (writing s room)) 0 0 ≡ 0) ↔ ((n : ℕ) × (writing s room ≡ writing-is.Written n))
+write-zero s room = (go (writing s room) refl, λ (n, e). first e)
+  where
+    first : {r : Writing} → writing s room ≡ r → getD (writeNumbers (writing s room)) 0 0 ≡ getD (writeNumbers r) 0 0
+    first e = ap (λ (r : Writing). getD (writeNumbers r) 0 0) e
+
+    go : (r : Writing) → writing s room ≡ r → getD (writeNumbers (writing s room)) 0 0 ≡ 0 → (n : ℕ) × (writing s room ≡ writing-is.Written n)
+    go (writing-is.Written n) e z = (n, e)
+    go (writing-is.Refused f) e z = absurd (omega (arith, sym (first e) ∙ z, writing-gives s room f e .0))
 
 -- ---- the judge and the search
 
@@ -164,3 +175,23 @@ module _ {l : List ℕ} {store s : List Node} {plan q : List ℕ} {a : Answer} (
       go search-is.Plan e z = absurd (omega (arith, sym (numbered-as search-is.Plan e) ∙ z))
       go search-is.NoPlan e z = e
       go (search-is.Refused k) e z = absurd (omega (arith, refused-small k e .1, sym (numbered-as (search-is.Refused k) e) ∙ z))
+
+-- the array's first number is the verdict's
+in-array : {n : List ℕ} (a : Answer) {k : ℕ} {P : Type 0} → n ≡ searchNumbers a → (verdictNumber (found-as (a .verdict)) ≡ k) ↔ P → (getD n 0 0 ≡ k) ↔ P
+in-array a e w = let first = ap (λ (m : List ℕ). getD m 0 0) e in (λ z. w .0 (sym first ∙ z), λ p. first ∙ w .1 p)
+
+-- the same of the caller's array
+module _ {l : List ℕ} {store s : List Node} {plan q n : List ℕ} (u : SearchedInto l store s plan q n) where
+  pub array-zero-plan : (getD n 0 0 ≡ 0) ↔ (u .answer .verdict ≡ search-is.Plan)
+  array-zero-plan = in-array (u .answer) (u .are-its) (zero-plan (u .searched))
+
+  pub array-top-no-plan : (getD n 0 0 ≡ 255) ↔ (u .answer .verdict ≡ search-is.NoPlan)
+  array-top-no-plan = in-array (u .answer) (u .are-its) (top-no-plan (u .searched))
+
+-- and over a store that the caller does not see
+module _ {places : ℕ} {l plan q n : List ℕ} (u : SearchedHereInto places l plan q n) where
+  pub array-here-zero-plan : (getD n 0 0 ≡ 0) ↔ (u .answer .verdict ≡ search-is.Plan)
+  array-here-zero-plan = in-array (u .answer) (u .are-its) (zero-plan (u .searched .searched))
+
+  pub array-here-top-no-plan : (getD n 0 0 ≡ 255) ↔ (u .answer .verdict ≡ search-is.NoPlan)
+  array-here-top-no-plan = in-array (u .answer) (u .are-its) (top-no-plan (u .searched .searched))

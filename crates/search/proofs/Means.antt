@@ -10,12 +10,14 @@ use lib.Seq.{take-at}
 use Rattle.meaning.proofs.Tests.{clash}
 use Rattle.meaning.specs.Domain.{Domain}
 use Rattle.meaning.specs.Runs.{Good}
+use Rattle.meaning.specs.Walk.{step}
+use Rattle.meaning.specs.Listing.{Entry, Listing}
 use Rattle.meaning.specs.Answers as meaning
-use Rattle.meaning.specs.Answers.{Searched, Searches, Judged, Judges, room}
+use Rattle.meaning.specs.Answers.{Searched, Searches, NoneInside, Judged, Judges, room}
 use Rattle.meaning.proofs.JudgeLaws.{judged-good}
 use Rattle.meaning.proofs.SearchLaws as answers
 use Rattle.meaning.proofs.SearchLaws.{Answered, answered}
-use Rattle.meaning.proofs.Meanings.{FirstGood, plan-is-first, too-long-means, no-plan-means, plan-shorter, room-suffices}
+use Rattle.meaning.proofs.Meanings.{FirstGood, plan-is-first, too-long-means, no-plan-means, no-room-means, plan-shorter, room-suffices}
 use Rattle.sets.specs.Words.{setOf}
 use Rattle.sheet.specs.Sheet.{domainIn}
 use Rattle.sheet.specs.Answers.{reading}
@@ -68,6 +70,12 @@ module _ {D : Domain} {x g : ℕ} (r : Ready D x) {store s : List Node} {plan p 
       let t = too-long-means D (r .well-formed) x (r .start) g (room (length store)) (length plan) (u .searches) (says e) in
       (t .0, t .1, ap (λ (o : Searched). o .plan-length) (u .answer-is) ∙ t .2, ap (λ (o : Searched). o .place) (u .answer-is) ∙ t .3, t .4)
 
+  pub done-no-room : a .verdict ≡ Refused 13
+      → (L : List Entry) × Listing (step D) x L × (room (length store) < length L) × NoneInside g (take (room (length store)) L) × (a .count ≡ room (length store))
+  done-no-room e =
+      let t = no-room-means D (r .well-formed) x (r .start) g (room (length store)) (length plan) (u .searches) (says e) in
+      (u .searches .listing, u .searches .is-listing, t .1, t .2, ap (λ (o : Searched). o .count) (u .answer-is) ∙ t .0)
+
   pub done-no-plan : a .verdict ≡ NoPlan → (q : List ℕ) → ¬ Good D x g q
   done-no-plan e = no-plan-means D (r .well-formed) x (r .start) g (room (length store)) (length plan) (u .searches) (says e)
 
@@ -96,6 +104,12 @@ module _ (l : List ℕ) {h : Head} (e : reading l ≡ Accepted h) {store s : Lis
   -- 14 gives the length of that plan, and the plan buffer is shorter
   pub fourteen-means : a .verdict ≡ Refused 14 → (q : List ℕ) × FirstGood (domainIn l) (setOf (h .initial)) (setOf (h .goal)) q × (a .length ≡ length q) × (a .place ≡ length q) × (length plan < length q)
   fourteen-means = done-too-long (sheet-ready l e) (u .accepted e)
+
+  -- 13 says that the listing has more sets than there is room for, that none of the first ones, as many as have room, is inside the goal, and how many these are
+  pub thirteen-means : a .verdict ≡ Refused 13
+      → (L : List Entry) × Listing (step (domainIn l)) (setOf (h .initial)) L × (room (length store) < length L)
+      × NoneInside (setOf (h .goal)) (take (room (length store)) L) × (a .count ≡ room (length store))
+  thirteen-means = done-no-room (sheet-ready l e) (u .accepted e)
 
   -- where the answer is 'no plan', no sequence of any length is good
   pub no-plan-is-good : a .verdict ≡ NoPlan → (q : List ℕ) → ¬ Good (domainIn l) (setOf (h .initial)) (setOf (h .goal)) q
