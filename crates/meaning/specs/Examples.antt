@@ -1,7 +1,9 @@
 -- The starred bench examples of the scope, as one table, and the one statement over it: each reply is what the definitions ask for. Where the scope
 -- names no room it is 4, and the plan buffer holds 4 commands where it is not said to be empty.
+use mathlib.Core.Bool.{cond, _&&_}
 use mathlib.Core.List.{List, [], _∷_}
 use Prim.Native.Nat.{ℕ, _+_, _*_}
+use lib.Dec.{ltb}
 use lib.ListN.{getD}
 use Rattle.meaning.specs.Domain.{Domain}
 use Rattle.meaning.specs.Listing.{At, Node}
@@ -15,8 +17,13 @@ pub record Bench : Type 0 where
   pub initial : ℕ
   pub goal : ℕ
 
+-- its domain: beyond the last command or the last state nothing follows
 abbrev pub domainOf : Bench → Domain
-domainOf t = record { states = t .states; commands = t .commands; follow = λ a s. getD (t .sets) (a * t .states + s) 0 }
+domainOf t = record {
+  states = t .states;
+  commands = t .commands;
+  follow = λ a s. cond (ltb a (t .commands) && ltb s (t .states)) (getD (t .sets) (a * t .states + s) 0) 0;
+}
 
 -- a question and its reply: a search with its room and plan buffer, and the records of the store; or a plan to judge
 pub data Asked : Type 0 where
@@ -27,10 +34,10 @@ pub record Example : Type 0 where
   pub sheet : Bench
   pub asked : Asked
 
--- the reply is the one that the definitions ask for
-abbrev pub RightFor : Bench → Asked → Type 0
-RightFor t (search c b r nodes) = Searches (domainOf t) (t .initial) (t .goal) c b r nodes
-RightFor t (judge p j) = Judges (domainOf t) (t .initial) (t .goal) p j
+-- the reply is the one that the definitions ask for, of the domain D from the initial set x to the goal g
+abbrev pub RightFor : Domain → ℕ → ℕ → Asked → Type 0
+RightFor D x g (search c b r nodes) = Searches D x g c b r nodes
+RightFor D x g (judge p j) = Judges D x g p j
 
 -- ---- the sheets
 
@@ -88,4 +95,4 @@ examples =
 
 -- the statement over the whole table
 abbrev pub AllRight : Type 0
-AllRight = (k : ℕ) (e : Example) → At examples k e → RightFor (e .sheet) (e .asked)
+AllRight = (k : ℕ) (e : Example) → At examples k e → RightFor (domainOf (e .sheet)) (e .sheet .initial) (e .sheet .goal) (e .asked)

@@ -8,3 +8,4 @@ pub mod Impostors
 pub mod Types
 pub mod Jobs
 pub mod Told
+pub mod BenchSheets
