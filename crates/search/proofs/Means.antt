@@ -105,7 +105,7 @@ module _ (l : List ℕ) {h : Head} (e : reading l ≡ Accepted h) {store s : Lis
   pub fourteen-means : a .verdict ≡ Refused 14 → (q : List ℕ) × FirstGood (domainIn l) (setOf (h .initial)) (setOf (h .goal)) q × (a .length ≡ length q) × (a .place ≡ length q) × (length plan < length q)
   fourteen-means = done-too-long (sheet-ready l e) (u .accepted e)
 
-  -- 13 says that the listing has more sets than there is room for, that none of the first ones, as many as have room, is inside the goal, and how many these are
+  -- 13 says that the listing has more sets than there is room for, and that none of those with a place is inside the goal; the count is the room
   pub thirteen-means : a .verdict ≡ Refused 13
       → (L : List Entry) × Listing (step (domainIn l)) (setOf (h .initial)) L × (room (length store) < length L)
       × NoneInside (setOf (h .goal)) (take (room (length store)) L) × (a .count ≡ room (length store))
