@@ -107,13 +107,7 @@ pub fn write(
 ) -> Writing
     ensures { λ r. ⌜ Wrote (sheetWith states commands (setOf initial) (setOf goal) (now (given .entry))) (now (out .entry)) (now (out .exit)) r ⌝ }
 {
-    match check_head(
-        Counted::Given(given.len()),
-        states,
-        commands,
-        initial,
-        goal,
-    ) {
+    match check_head(Counted::Given(given.len()), states, commands, initial, goal) {
         Check::Failed(r) => Writing::Refused(r),
         Check::Passed => match check_given(states, given) {
             Check::Failed(r) => Writing::Refused(r),

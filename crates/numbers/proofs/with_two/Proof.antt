@@ -47,8 +47,7 @@ returns c =
     let k : getD l (at + 1) 0 < 256 = omega (arith, c .wide2 .ensures) in
     let e = numberAt-add at 1 1 l (a .pre .1) in
     let f = numberAt-one at l (omega arith) in
-    let g = numberAt-one (at + 1) l (omega arith) in
-    (
+    let g = numberAt-one (at + 1) l (omega arith) in (
       omega (arith, e, f, g, c .before .before .wide .ensures, c .wide2 .ensures),
       omega (arith, e, f, g, c .before .before .wide .ensures, c .wide2 .ensures),
       bytes-add at 1 1 2 l refl (bytes-one at l (omega arith) h) (bytes-one (at + 1) l (omega arith) k),

@@ -60,8 +60,7 @@ failed-requires c κs = search needs
 
 returns : tie.Need-returns Inv-loop μ-loop
 returns c =
-    let t = c .before .before .before .before in
-    (
+    let t = c .before .before .before .before in (
       c .failed .ensures ∙ sym (t .before .loop .inv .1 ∙ set-fails Failed Passed (States t) (Sets t) (t .before .loop .i) (within t) (tested (c .before .before) ∙ c .before .if1 .taken)),
       λ e. absurd (not-failed (sym (c .failed .ensures) ∙ e)),
     )
@@ -74,8 +73,7 @@ loop-less c = omega arith
 
 loop-again : tie.Need-loop-again Inv-loop μ-loop
 loop-again c =
-    let t = c .before .before .before in
-    (
+    let t = c .before .before .before in (
       omega arith,
       t .before .loop .inv .1 ∙ set-passes Failed Passed (States t) (Sets t) (t .before .loop .i) (within t) (tested (c .before) ∙ c .if1 .left),
       bytes-add setsAt (setWidth * t .before .loop .i) setWidth (setWidth * (t .before .loop .i + 1)) (now (t .before .before .before .args .sheet)) (omega arith) (t .before .loop .inv .2) (c .before .before .set-in .ensures .1),
@@ -83,8 +81,7 @@ loop-again c =
 
 returns-2 : tie.Need-returns-2 Inv-loop μ-loop
 returns-2 c =
-    let a = c .before .before .before .args in
-    (
+    let a = c .before .before .before .args in (
       sym (c .before .loop .inv .1 ∙ set-ends Failed Passed (a .states) (map (setIn (now (a .sheet))) (from 0 (a .count))) (c .before .loop .i) (omega (arith, length-from (setIn (now (a .sheet))) 0 (a .count)))),
       λ e. bytes-upto setsAt (setWidth * c .before .loop .i) (setWidth * a .count) (now (a .sheet)) (omega arith) (c .before .loop .inv .2),
     )

@@ -104,8 +104,7 @@ returns c =
 returns-2 : tie.Need-returns-2
 returns-2 c =
     let m = c .before .before .before in
-    let k = m .before .before .before in
-    (
+    let k = m .before .before .before in (
       sym (passed (m .before) ∙ by-sets (L k) (H k) (same k) (m .check-sets .result) (m .check-sets .ensures .0) ∙ ap (λ (o : Check). onCheck Refused (Accepted (H k)) o) (c .before .r2 .given .1)),
       refused-bytes refl,
     )
@@ -114,12 +113,13 @@ returns-3 : tie.Need-returns-3
 returns-3 c =
     let m = c .before .before in
     let k = m .before .before .before in
-    let w = k .before .before .before .before .before in
-    (
+    let w = k .before .before .before .before .before in (
       sym (passed (m .before) ∙ by-sets (L k) (H k) (same k) (m .check-sets .result) (m .check-sets .ensures .0) ∙ ap (λ (o : Check). onCheck Refused (Accepted (H k)) o) (c .enum-told2 .given .1)),
-      record { are-bytes = λ e. bytes-stated (L k) (H k .commands * H k .states) (stated-is (m .before)) (omega arith)
-          (omega (arith, w .wide .ensures)) (omega (arith, k .before .before .before .wide2 .ensures)) (k .before .before .set-in .ensures .1) (k .before .set-in2 .ensures .1)
-          (m .check-sets .ensures .1 (c .enum-told2 .given .1)) },
+      record {
+        are-bytes = λ e. bytes-stated (L k) (H k .commands * H k .states) (stated-is (m .before)) (omega arith)
+            (omega (arith, w .wide .ensures)) (omega (arith, k .before .before .before .wide2 .ensures)) (k .before .before .set-in .ensures .1) (k .before .set-in2 .ensures .1)
+            (m .check-sets .ensures .1 (c .enum-told2 .given .1));
+      },
     )
 
 pub read-stated-spec : {M : Type 1} → statement M

@@ -69,8 +69,7 @@ put-sheet-requires : tie.Need-put-sheet-requires
 put-sheet-requires c κs =
     let t = c .before .before .before .before in
     let g : Sheet = S (t .before .before .before .before .before) in
-    let n : Counted = Given (length (g .sets)) in
-    (
+    let n : Counted = Given (length (g .sets)) in (
       eqb-true (length (g .sets)) (g .commands * g .states) (not-false _ (head-even n (g .states) (g .commands) (g .initial) (g .goal) (head-passed t))),
       head-fits n (g .states) (g .commands) (g .initial) (g .goal) (head-passed t),
     )
