@@ -13,9 +13,10 @@
  *   - A pointer is aligned for its element: 1 byte for uint8_t, 8 bytes for uint64_t and for struct potuchlan_node.
  *   - A buffer that a function writes overlaps no other buffer of the same call. Two buffers that are only read may
  *     overlap, and may be the same.
- *   - Buffers that are written are initialised, the arrays for answers too: a function leaves the parts that it does
- *     not fill as they were.
- *   - While a call runs, no other thread changes a buffer that was lent to it, or reads one that it writes.
+ *   - Every buffer is initialised, also one that is written: a function leaves the parts that it does not fill as
+ *     they were. So are the arrays for answers, though all of an array is written.
+ *   - While a call runs, nobody else changes a buffer that was lent to it, or reads one that it writes: no other
+ *     thread, no signal handler, and no other process that shares the memory.
  *   - A number of elements is that of the buffer, and no buffer has 2^63 bytes or more.
  *   - Nothing else is asked. Bad content, and buffers that are too short, get a refusal and no harm.
  *
@@ -149,7 +150,7 @@ uint8_t potuchlan_better(const uint8_t *sheet, size_t sheet_length, const uint8_
 /*
  * One place of a search's store: a set of states, the place of the set that it came from, and the command that led to
  * it. Place 0 holds the initial set, with parent 0 and command 255. 16 bytes, of which the last 3 are padding: where a
- * record is written nothing is promised of them, and where a place stays as it was they stay too.
+ * record is written nothing is promised of them.
  */
 struct potuchlan_node {
     uint64_t set;

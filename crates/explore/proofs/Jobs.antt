@@ -5,7 +5,7 @@ use Prim.Native.Nat.{_+_, _≤_, _<_}
 use lib.ListN.{length}
 use Rattle.walks.proofs.Steps.{tyInt, tyBool, tyUnit, w64, w32, w8, erased, mut, imm, now, sliceTy, pNum, pMutS, pShrS, ptr, tyOf, param, result, Job, job-of}
 use Rattle.meaning.specs.Answers.{room as room-for}
-use Rattle.sets.specs.Words.{setOf}
+use Rattle.sets.specs.Words.{setOf, IsValue}
 use Rattle.follow.specs.Following.{domainBy}
 use Rattle.store.proofs.SetSteps.{set-kind, set-ty}
 use Rattle.store.specs.Nodes.{setAt}
@@ -41,5 +41,5 @@ run = job-of 2 1 (param head-type ∷ pShrS byte 0 tt ∷ set-kind ∷ pMutS (no
 abbrev pub explore : Job
 explore = job-of 2 1 (param head-type ∷ pShrS byte 0 tt ∷ set-kind ∷ set-kind ∷ pMutS (node-type .R) 1 tt ∷ []) (result turn-type)
     (tyInt w64 ∷ tyOf turn-type ∷ tyInt w64 ∷ tyBool ∷ tyUnit ∷ ptr (node-type .R) erased mut ∷ sliceTy (ptr (node-type .R) erased mut) ∷ ptr (node-type .R) erased mut ∷ sliceTy (ptr (node-type .R) erased mut) ∷ [])
-    (λ κs a. (Ready (domainBy (a .0) (a .1 .0 .now)) (setOf (a .1 .1 .0))) ∷ [])
+    (λ κs a. (Ready (domainBy (a .0) (a .1 .0 .now)) (setOf (a .1 .1 .0))) ∷ (IsValue (a .1 .1 .0)) ∷ [])
     (λ κs a z e. (Explored (domainBy (a .0) (a .1 .0 .now)) (setOf (a .1 .1 .0)) (setOf (a .1 .1 .1 .0)) (room-for (length (a .1 .1 .1 .1 .0 .now))) 0 (a .1 .1 .1 .1 .0 .now) (now (e .1 .1 .1 .1 .0)) z) ∷ [])

@@ -12,7 +12,7 @@ use Rattle.meaning.specs.Domain.{Domain}
 use Rattle.meaning.specs.Walk.{sendable, image, step}
 use Rattle.meaning.proofs.StepLaws.{step-sends, step-stops}
 use Rattle.sets.specs.Words.{Value, setOf, setFor}
-use Rattle.sets.proofs.Values.{stands-for}
+use Rattle.sets.proofs.Values.{stands-for, is-value}
 use Rattle.store.specs.declared.Node.{Node}
 use Rattle.store.specs.Nodes.{nodeAt, setAt, Found}
 use Rattle.explore.specs.Turns.{not-sendable, seen, Fresh, NextAt}
@@ -31,7 +31,7 @@ module _ (D : Domain) (l : List Node) (count i a : ℕ) {m : Node} (e : m ≡ no
   pub next-set : {y : Value} {k : ℕ} {g : Next} → b ≡ true → y ≡ setFor (image (D .follow a) (setOf (m .set)) (D .states)) → Found l count (setOf y) k → g .new ≡ eqb k count → g .set ≡ y → NextAt D l count i a g
   next-set {y} {k} {g} q v f n w = record {
     old = λ z. seen gives (below z) (f .here (below z));
-    fresh = λ z. subst (Fresh D l count i a) (sym w) (record { value = v ∙ ap setFor (sym (stands-for v)); gives = gives; nowhere = f .nowhere (eqb-true k count (sym n ∙ z)) });
+    fresh = λ z. subst (Fresh D l count i a) (sym w) (record { value = is-value _ v; gives = gives; nowhere = f .nowhere (eqb-true k count (sym n ∙ z)) });
   }
     where
       gives : step D (setAt l i) a ≡ some (setOf y)

@@ -20,8 +20,7 @@ use Rattle.meaning.specs.Enumeration.{listing, root}
 use Rattle.meaning.specs.Progress.{Progress}
 use Rattle.meaning.proofs.Places.{at-fun, at-lt}
 use Rattle.meaning.proofs.ProgressLaws.{progress-none, progress-seen, progress-grow, new-place, not-all, progress-turn, progress-end, progress-start, place-0}
-use Rattle.sets.specs.Words.{Value, setOf, setFor}
-use Rattle.sets.proofs.Values.{for-set}
+use Rattle.sets.specs.Words.{Value, setOf, IsValue}
 use Rattle.store.specs.declared.Node.{Node}
 use Rattle.store.specs.Nodes.{node, nothing, nodeAt, setAt, meant}
 use Rattle.explore.specs.Ready.{Ready}
@@ -58,9 +57,9 @@ places-more P {count} l {l′} n f h e new k b = subst (λ (m : List Node). P k 
     last : P count (nodeAt (set l count n) count)
     last = subst (P count) (sym (getD-set-same l count n nothing h)) new
 
-stored-more : {D : Domain} {x count : ℕ} {l l′ : List Node} (n : Node) → Stored D x count l → count < length l → l′ ≡ set l count n → n .set ≡ setFor (setOf (n .set)) → Holds (listing D x) count (meant n) → Stored D x (count + 1) l′
+stored-more : {D : Domain} {x count : ℕ} {l l′ : List Node} (n : Node) → Stored D x count l → count < length l → l′ ≡ set l count n → IsValue (n .set) → Holds (listing D x) count (meant n) → Stored D x (count + 1) l′
 stored-more {D} {x} {l = l} n s h e value new = record {
-  values = places-more (λ k (m : Node). m .set ≡ setFor (setOf (m .set))) l n (s .values) h e value;
+  values = places-more (λ k (m : Node). IsValue (m .set)) l n (s .values) h e value;
   holds = places-more (λ k (m : Node). Holds (listing D x) k (meant m)) l n (s .holds) h e new;
 }
 
@@ -303,7 +302,7 @@ module _ {D : Domain} {x : ℕ} (r : Ready D x) (g room : ℕ) (l : List Node) (
   }
 
   -- the initial set is stored at place 0
-  module _ (some : 0 < room) {l′ : List Node} (z : Value) (is : setOf z ≡ x) (e : l′ ≡ set l 0 (node z 0 255)) {t : Turn} (tested : Tested (setOf z) g 1 t) where
+  module _ (some : 0 < room) {l′ : List Node} (z : Value) (is : setOf z ≡ x) (value : IsValue z) (e : l′ ≡ set l 0 (node z 0 255)) {t : Turn} (tested : Tested (setOf z) g 1 t) where
     u : Tested x g 1 t
     u = subst (λ (y : ℕ). Tested y g 1 t) is tested
 
@@ -311,7 +310,7 @@ module _ {D : Domain} {x : ℕ} (r : Ready D x) (g room : ℕ) (l : List Node) (
     as-long₀ = ap length e ∙ length-set l 0 (node z 0 255)
 
     stored-1 : Stored D x 1 l′
-    stored-1 = stored-more {count = 0} {l = l} (node z 0 255) stored-none (omega (arith, some, there)) e (sym (for-set z)) (record {
+    stored-1 = stored-more {count = 0} {l = l} (node z 0 255) stored-none (omega (arith, some, there)) e value (record {
       entry = root x;
       at-place = at-0;
       its-set = is;

@@ -12,12 +12,13 @@ use Rattle.meaning.specs.Walk.{step}
 use Rattle.meaning.specs.Listing as records
 use Rattle.meaning.specs.Listing.{At}
 use Rattle.meaning.proofs.Places.{at-ext, at-take, take-lt, at-getD}
+use Rattle.meaning.proofs.ListingLaws.{place-fun}
 use Rattle.meaning.proofs.SearchLaws.{first-place}
 use Rattle.meaning.proofs.StoreLaws.{holds-fun}
 use Rattle.meaning.proofs.Enumerated.{listing-correct}
 use Rattle.sets.specs.Words.{setFor}
 use Rattle.store.specs.declared.Node.{Node}
-use Rattle.store.specs.Nodes.{nothing, nodeAt, meant}
+use Rattle.store.specs.Nodes.{nothing, nodeAt, setAt, meant}
 use Rattle.explore.specs.Turns.{ends-plan, ends-no-plan, ends-no-room, LastInside, AllOutside, MoreThanRoom, Stored, Ended, Explored}
 use Rattle.explore.specs.Ready.{Ready}
 use Rattle.explore.specs.declared.Turn.{Turn}
@@ -66,6 +67,11 @@ node-unique {D} {x} {s = s} {t} r u v k h j =
       parent = ap (λ (n : records.Node). n .parent) same i;
       command = ap (λ (n : records.Node). n .command) same i;
     }
+
+-- the sets of the counted places are distinct, so a look-up among them has one answer (`found-unique` of `store`)
+pub stored-distinct : {D : Domain} {x count : ℕ} {l : List Node} → Ready D x → Stored D x count l → (j k : ℕ) → j < count → k < count → setAt l j ≡ setAt l k → j ≡ k
+stored-distinct {D} {x} r s j k h i e =
+    place-fun (step D) x (listing-correct D (r .well-formed) x (r .start) .prefix) (s .holds j h .at-place) (s .holds k i .at-place) (sym (s .holds j h .its-set) ∙ e ∙ s .holds k i .its-set)
 
 pub explored-unique : {D : Domain} {x g room first : ℕ} {before s t : List Node} {a b : Turn} → Explored D x g room first before s a → Explored D x g room first before t b → (a ≡ b) × (s ≡ t)
 explored-unique {before = before} {s} {t} {a} {b} u v = (turns, sym (take-append-drop (a .count) s) ∙ ap₂ _++_ firsts rests ∙ take-append-drop (a .count) t)

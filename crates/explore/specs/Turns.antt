@@ -13,7 +13,7 @@ use Rattle.meaning.specs.Listing.{Entry, At, Holds}
 use Rattle.meaning.specs.Answers.{FirstInside, NoneInside}
 use Rattle.meaning.specs.Enumeration.{listing}
 use Rattle.meaning.specs.Progress.{Progress}
-use Rattle.sets.specs.Words.{Value, setOf, setFor}
+use Rattle.sets.specs.Words.{Value, setOf, IsValue}
 use Rattle.store.specs.declared.Node.{Node}
 use Rattle.store.specs.Nodes.{nodeAt, setAt, meant}
 use Rattle.explore.specs.Ready.{Ready}
@@ -45,7 +45,7 @@ pub data Old (D : Domain) (l : List Node) (count i a : ℕ) : Type 0 where
 
 -- the command gives the set that the value y stands for, and no place holds it
 pub record Fresh (D : Domain) (l : List Node) (count i a : ℕ) (y : Value) : Type 0 where
-  pub value : y ≡ setFor (setOf y)
+  pub value : IsValue y
   pub gives : step D (setAt l i) a ≡ some (setOf y)
   pub nowhere : (k : ℕ) → k < count → setAt l k ≢ setOf y
 
@@ -62,7 +62,7 @@ pub record Tested (y g count : ℕ) (t : Turn) : Type 0 where
 
 -- the first places hold the records of the listing, each set as the value that stands for it
 pub record Stored (D : Domain) (x count : ℕ) (l : List Node) : Type 0 where
-  pub values : (k : ℕ) → k < count → nodeAt l k .set ≡ setFor (setAt l k)
+  pub values : (k : ℕ) → k < count → IsValue (nodeAt l k .set)
   pub holds : (k : ℕ) → k < count → Holds (listing D x) k (meant (nodeAt l k))
 
 -- the later places are as before

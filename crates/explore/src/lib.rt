@@ -15,7 +15,7 @@ ghost use Prim.Native.Nat.{_+_, _≤_, _<_};
 ghost use lib.Dec.{eqb};
 ghost use lib.ListN.{length};
 ghost use Rattle.meaning.specs.Answers.{room as room-for};
-ghost use Rattle.sets.specs.Words.{setOf};
+ghost use Rattle.sets.specs.Words.{setOf, IsValue};
 ghost use Rattle.follow.specs.Following.{domainBy};
 ghost use Rattle.store.specs.Nodes.{setAt};
 ghost use Rattle.explore.specs.Ready.{Ready};
@@ -181,6 +181,7 @@ fn run(head: Head, sheet: &[u8], goal: Set, store: &mut [Node], room: usize) -> 
 // Stores the start at place 0, which has parent 0 and command 255, and runs on from there.
 pub fn explore(head: Head, sheet: &[u8], start: Set, goal: Set, store: &mut [Node]) -> Turn
     requires { ⌜ Ready (domainBy head (now sheet)) (setOf start) ⌝ }
+    requires { ⌜ IsValue start ⌝ }
     ensures { λ r. ⌜ Explored (domainBy head (now (sheet .entry))) (setOf start) (setOf goal) (room-for (length (now (store .entry)))) 0 (now (store .entry)) (now (store .exit)) r ⌝ }
 {
     let room = room_of(store.len());

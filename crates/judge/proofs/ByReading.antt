@@ -5,8 +5,8 @@ use Prim.Native.Nat.{ℕ}
 use Rattle.meaning.specs.Sets.{empty}
 use Rattle.meaning.specs.Domain.{Domain}
 use Rattle.meaning.specs.Answers.{Judges}
-use Rattle.sets.specs.Words.{setOf, setFor}
-use Rattle.sets.proofs.Values.{for-set}
+use Rattle.sets.specs.Words.{setOf, setFor, IsValue}
+use Rattle.sets.proofs.Values.{is-value}
 use Rattle.sheet.specs.Sheet.{domainIn}
 use Rattle.sheet.specs.Answers.{reading}
 use Rattle.sheet.specs.declared.Head.{Head}
@@ -22,14 +22,14 @@ use Rattle.judge.specs.Verdicts.{valuesOf, JudgedBy}
 module _ (l p : List ℕ) (j : Judged) where
   pub by-refusal : {f : Refusal} → reading l ≡ reading-is.Refused f → j ≡ record { verdict = Refused f; set = setFor empty; left = 0 } → JudgedBy l p j
   by-refusal {f} e q = record {
-    value = sym (for-set (j .set));
+    value = is-value empty (ap (λ (i : Judged). i .set) q);
     refused = λ {f = g} d. q ∙ ap (λ (k : Refusal). let i : Judged = record { verdict = Refused k; set = setFor empty; left = 0 } in i) (refused-inj (sym e ∙ d));
     accepted = λ {h} d. absurd (not-both (sym d ∙ e));
   }
 
-  pub by-head : {h : Head} → reading l ≡ reading-is.Accepted h → Judges (domainBy h l) (setOf (h .initial)) (setOf (h .goal)) p (valuesOf j) → JudgedBy l p j
-  by-head {h} e u = record {
-    value = sym (for-set (j .set));
+  pub by-head : {h : Head} → reading l ≡ reading-is.Accepted h → Judges (domainBy h l) (setOf (h .initial)) (setOf (h .goal)) p (valuesOf j) → IsValue (j .set) → JudgedBy l p j
+  by-head {h} e u v = record {
+    value = v;
     refused = λ {f} d. absurd (not-both (sym e ∙ d));
     accepted = λ {h = k} d. subst (λ (g : Head). Judges (domainIn l) (setOf (g .initial)) (setOf (g .goal)) p (valuesOf j)) (accepted-inj (sym e ∙ d))
         (subst (λ (D : Domain). Judges D (setOf (h .initial)) (setOf (h .goal)) p (valuesOf j)) (domain-is l h e) u);

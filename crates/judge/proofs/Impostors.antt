@@ -10,7 +10,7 @@ use Rattle.meaning.specs.Computed.{firstMissing, judge}
 use Rattle.sets.specs.Words.{setOf, setFor}
 use Rattle.numbers.specs.Bytes.{number}
 use Rattle.sheet.specs.Sheet.{sheetIn, domain}
-use Rattle.sheet.proofs.Bench.{S, partial, drift, reads-S, reads-partial, reads-drift}
+use Rattle.sheet.proofs.Bench.{S, partial, drift, deadEnd, reads-S, reads-partial, reads-drift, reads-dead-end}
 use Rattle.judge.specs.declared.Judged.{Judged}
 use Rattle.judge.specs.Verdicts.{valuesOf, JudgedBy}
 use Rattle.judge.proofs.Unique.{judge-value}
@@ -39,3 +39,8 @@ not-on-the-way u = judge-value u reads-S ∙ refl
 pub not-walked-first : {j : Judged} → JudgedBy partial (1 ∷ 7 ∷ []) j → valuesOf j ≡ judged (answers.refused 10) 1 0
 unfolding judge firstMissing walk step sendable image domain sheetIn number setOf setFor ones onesIn
 not-walked-first u = judge-value u reads-partial ∙ refl
+
+-- a judge that asks for a possible command in every state
+pub not-commands-everywhere : {j : Judged} → JudgedBy deadEnd (0 ∷ []) j → valuesOf j ≡ judged answers.good 0 2
+unfolding judge firstMissing walk step sendable image domain sheetIn number setOf setFor ones onesIn
+not-commands-everywhere u = judge-value u reads-dead-end ∙ refl

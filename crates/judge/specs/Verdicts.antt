@@ -8,7 +8,7 @@ use Rattle.meaning.specs.Answers as answers
 use Rattle.meaning.specs.Answers.{Judges}
 use Rattle.meaning.specs.Runs as runs
 use Rattle.meaning.specs.Sets.{empty}
-use Rattle.sets.specs.Words.{setOf, setFor}
+use Rattle.sets.specs.Words.{setOf, setFor, IsValue}
 use Rattle.sheet.specs.Sheet.{domainIn}
 use Rattle.sheet.specs.Answers.{reading}
 use Rattle.sheet.specs.declared.Head.{Head}
@@ -31,9 +31,9 @@ placeOf (Refused f) = f .place
 abbrev pub valuesOf : Judged → answers.Judged
 valuesOf j = record { verdict = verdictOf (j .verdict); place = placeOf (j .verdict); set = setOf (j .set); left = j .left }
 
--- the judge's answer for the sheet l and the plan p. A refused sheet has the empty set; `value` says which value of type `Set` the answer holds.
+-- the judge's answer for the sheet l and the plan p. A refused sheet has the empty set. The set is held as the value that stands for it.
 pub record JudgedBy (l p : List ℕ) (j : Judged) : Type 0 where
-  pub value : j .set ≡ setFor (setOf (j .set))
+  pub value : IsValue (j .set)
   pub refused : {f : Refusal} → reading l ≡ reading-is.Refused f → j ≡ record { verdict = Refused f; set = setFor empty; left = 0 }
   pub accepted : {h : Head} → reading l ≡ reading-is.Accepted h → Judges (domainIn l) (setOf (h .initial)) (setOf (h .goal)) p (valuesOf j)
 

@@ -9,7 +9,7 @@ ghost use mathlib.Core.Path.{_≡_};
 ghost use Rattle.meaning.specs.Answers as answers;
 ghost use Rattle.meaning.specs.Answers.{Judges, judged};
 ghost use Rattle.meaning.specs.Sets.{Tells};
-ghost use Rattle.sets.specs.Words.{setOf};
+ghost use Rattle.sets.specs.Words.{setOf, IsValue};
 ghost use Rattle.follow.specs.Following.{domainBy};
 ghost use Rattle.judge.specs.Verdicts.{valuesOf, JudgedBy, GoodFor, ChoiceOf, BetterOf};
 ghost use Rattle.judge.specs.Turns.{FirstMissing, WalkedTo};
@@ -48,6 +48,8 @@ fn first_missing(plan: &[u8], commands: usize) -> usize
 
 // Sends the plan's commands from the initial set, up to the first that is not sendable.
 fn walk(head: Head, sheet: &[u8], plan: &[u8]) -> End
+    requires { ⌜ IsValue (head .initial) ⌝ }
+    ensures { λ r. ⌜ IsValue (r .set) ⌝ }
     ensures { λ r. ⌜ WalkedTo (domainBy head (now (sheet .entry))) (setOf (head .initial)) (now (plan .entry)) (r .at) (setOf (r .set)) ⌝ }
 {
     let mut set = head.initial;
@@ -65,6 +67,7 @@ fn walk(head: Head, sheet: &[u8], plan: &[u8]) -> End
 
 // The judgement by a number of the table, with its place and its set.
 fn refused(number: u8, place: usize, set: Set) -> Judged
+    ensures { λ r. ⌜ r .set ≡ set ⌝ }
     ensures { λ r. ⌜ valuesOf r ≡ judged (answers.refused number) place (setOf set) ⌝ }
 {
     Judged {
@@ -76,6 +79,8 @@ fn refused(number: u8, place: usize, set: Set) -> Judged
 
 // The judgement of a plan for a sheet that was accepted with this head.
 fn judge_by(head: Head, sheet: &[u8], plan: &[u8]) -> Judged
+    requires { ⌜ IsValue (head .initial) ⌝ }
+    ensures { λ r. ⌜ IsValue (r .set) ⌝ }
     ensures { λ r. ⌜ Judges (domainBy head (now (sheet .entry))) (setOf (head .initial)) (setOf (head .goal)) (now (plan .entry)) (valuesOf r) ⌝ }
 {
     let length = plan.len();

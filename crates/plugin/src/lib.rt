@@ -1,5 +1,5 @@
 // The functions that C and Rust link. Each calls a function of the libraries, takes its answer apart, and stores the answer's numbers in an array that
-// the caller lends. Nothing is asked of a caller: bad input gets a refusal.
+// the caller lends. Nothing is asked of what a caller's buffers hold: bad input gets a refusal.
 use judge::Judged;
 use search::Answer;
 use sets::of_word;

@@ -20,8 +20,8 @@ use Rattle.meaning.proofs.SearchLaws.{answers-plan, answers-too-long, answers-n
 use Rattle.meaning.proofs.Enumerated.{listing-correct}
 use Rattle.meaning.proofs.ProgressLaws.{place-0}
 use Rattle.store.specs.declared.Node.{Node}
-use Rattle.sets.specs.Words.{setFor}
-use Rattle.store.specs.Nodes.{node, nothing, nodeAt, setAt, meant, nodeFor}
+use Rattle.sets.specs.Words.{IsValue}
+use Rattle.store.specs.Nodes.{node, nothing, nodeAt, meant, nodeFor}
 use Rattle.store.specs.Paths.{Path, start, step}
 use Rattle.explore.specs.Ready.{Ready}
 use Rattle.explore.specs.Turns.{ends-plan, ends-no-plan, ends-no-room, Stored, Ended, Explored, LastInside}
@@ -74,7 +74,7 @@ stored-nodes {D} {x} {count} {l} s b = record {
 }
 
 -- the first places are the values of what they stand for
-own-values : (n : ℕ) (l : List Node) → ((k : ℕ) → k < n → nodeAt l k .set ≡ setFor (setAt l k)) → take n l ≡ map nodeFor (map meant (take n l))
+own-values : (n : ℕ) (l : List Node) → ((k : ℕ) → k < n → IsValue (nodeAt l k .set)) → take n l ≡ map nodeFor (map meant (take n l))
 own-values zero l f = refl
 own-values (suc n) [] f = refl
 own-values (suc n) (m ∷ l) f = λ i. node (f 0 (omega arith) i) (m .parent) (m .command) ∷ own-values n l (λ k h. f (suc k) (suc-le-suc h)) i

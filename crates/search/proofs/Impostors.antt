@@ -19,7 +19,7 @@ use Rattle.numbers.specs.Bytes.{number}
 use Rattle.sheet.specs.Sheet.{sheetIn, domain, domainIn}
 use Rattle.sheet.specs.Answers.{reading}
 use Rattle.sheet.specs.declared.Head.{Head}
-use Rattle.sheet.proofs.Bench.{S, partial, swap, drift, reads-S, reads-S-two, reads-S-none, reads-partial, reads-swap, reads-swap-all, reads-drift}
+use Rattle.sheet.proofs.Bench.{S, partial, swap, drift, deadEnd, reads-dead-end, reads-S, reads-S-two, reads-S-none, reads-partial, reads-swap, reads-swap-all, reads-drift}
 use Rattle.sheet.specs.declared.Reading.the-variants.{Accepted}
 use Rattle.store.specs.declared.Node.{Node}
 use Rattle.store.specs.Nodes.{node, nothing, nodeAt, setAt, nodeFor}
@@ -93,6 +93,10 @@ pub only-drift : Only drift (places 4) buffer (answer NoPlan 0 2 0) (node (setFo
 unfolding computed.answer firstInside listing expanded tried add hasSet step sendable image nodes nodeOf placeOf sameSeq byLast domain sheetIn number setOf setFor
 only-drift = only reads-drift [] _ refl refl refl refl refl
 
+pub only-dead-end : Only deadEnd (places 4) buffer (answer Plan 0 2 1) (node (setFor 1) 0 255 ∷ node (setFor 2) 0 0 ∷ places 2) (0 ∷ 9 ∷ 9 ∷ 9 ∷ [])
+unfolding computed.answer firstInside listing expanded tried add hasSet step sendable image nodes nodeOf placeOf sameSeq byLast domain sheetIn number setOf setFor
+only-dead-end = only reads-dead-end (0 ∷ []) _ refl refl refl refl refl
+
 -- ---- the impostors
 
 says : {a c : Answer} → a ≡ c → c .verdict ≡ a .verdict
@@ -102,6 +106,10 @@ module _ {a : Answer} {s : List Node} {p : List ℕ} where
   -- one that refuses everything
   pub not-refuse-all : SheetSearched (S 1) (places 4) s buffer p a → (n : ℕ) → a .verdict ≢ Refused n
   not-refuse-all u n z = plan-not-refused (says (only-S .answers u .0) ∙ z)
+
+  -- one that asks for a possible command in every state
+  pub not-commands-everywhere : SheetSearched deadEnd (places 4) s buffer p a → a .verdict ≡ Plan
+  not-commands-everywhere u = ap (λ (o : Answer). o .verdict) (only-dead-end .answers u .0)
 
   -- one fixed plan
   pub not-one-plan : {b : Answer} {t : List Node} {q : List ℕ} → SheetSearched (S 1) (places 4) s buffer p a → SheetSearched (swap 1 2) (places 4) t buffer q b → take 1 p ≢ take 1 q

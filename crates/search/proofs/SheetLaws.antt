@@ -5,7 +5,7 @@ use mathlib.Core.List.{List}
 use Prim.Native.Nat.{ℕ}
 use lib.ListN.{replicate}
 use Rattle.meaning.specs.Domain.{Domain}
-use Rattle.sets.specs.Words.{setOf}
+use Rattle.sets.specs.Words.{setOf, IsValue}
 use Rattle.sheet.specs.Sheet.{domain, domainIn}
 use Rattle.sheet.specs.Answers.{reading, shownHead}
 use Rattle.sheet.specs.declared.Head.{Head}
@@ -14,7 +14,7 @@ use Rattle.sheet.specs.declared.Reading.{Reading}
 use Rattle.sheet.specs.declared.Reading.the-variants.{Accepted, Refused}
 use Rattle.sheet.proofs.Readings.{accepted-inj, refused-inj, not-both}
 use Rattle.sheet.proofs.Accepts.{reading-accepts}
-use Rattle.sheet.proofs.DomainLaws.{domain-well-formed, initial-start}
+use Rattle.sheet.proofs.DomainLaws.{domain-well-formed, initial-start, initial-value}
 use Rattle.follow.specs.Following.{domainBy}
 use Rattle.follow.proofs.DomainLaws.{domain-is}
 use Rattle.store.specs.declared.Node.{Node}
@@ -41,6 +41,9 @@ module _ (l : List ℕ) {h : Head} (r : Reading) (e : r ≡ reading l) (q : isRe
   -- the engine may be called
   pub engine-ready : Ready (domainBy h l) (setOf (h .initial))
   engine-ready = subst (λ (D : Domain). Ready D (setOf (h .initial))) (sym (domain-is l h taken)) (sheet-ready l taken)
+
+  pub engine-value : IsValue (h .initial)
+  engine-value = initial-value l h taken
 
   -- and its answer is the sheet's
   pub engine-done : {store store′ : List Node} {plan plan′ : List ℕ} {a : Answer} → SearchDone (domainBy h l) (setOf (h .initial)) (setOf (h .goal)) store store′ plan plan′ a → SheetSearched l store store′ plan plan′ a

@@ -12,7 +12,7 @@ use store::Node;
 use store::blank;
 use store::read_back;
 ghost use mathlib.Core.Path.{_≡_};
-ghost use Rattle.sets.specs.Words.{setOf};
+ghost use Rattle.sets.specs.Words.{setOf, IsValue};
 ghost use Rattle.follow.specs.Following.{domainBy};
 ghost use Rattle.explore.specs.Ready.{Ready};
 ghost use Rattle.search.specs.Done.{answer, SearchDone, SheetSearched, SearchedHere};
@@ -89,6 +89,7 @@ pub fn search_from(
     plan: &mut [u8],
 ) -> Answer
     requires { ⌜ Ready (domainBy head (now sheet)) (setOf start) ⌝ }
+    requires { ⌜ IsValue start ⌝ }
     ensures { λ r. ⌜ SearchDone (domainBy head (now (sheet .entry))) (setOf start) (setOf goal) (now (store .entry)) (now (store .exit)) (now (plan .entry)) (now (plan .exit)) r ⌝ }
 {
     let t = explore(head, sheet, start, goal, &mut *store);

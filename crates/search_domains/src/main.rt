@@ -3,7 +3,11 @@
 use search::Answer;
 use search::Verdict;
 use search::search_here;
-use sets::of_word;
+use sets::Set;
+use sets::empty;
+use sets::single;
+use sets::to_word;
+use sets::union;
 use writer::Writing;
 ghost use Prim.Native.Nat.{_≤_, _<_};
 
@@ -22,18 +26,19 @@ struct Domain {
     n: usize,
     states: usize,
     commands: usize,
-    initial: u64,
-    goal: u64,
-}
-
-fn bit(s: usize) -> u64 {
-    if s < 64 { 1 << s } else { 0 }
+    initial: Set,
+    goal: Set,
 }
 
 // The set of the first states.
-fn all(states: usize) -> u64 {
-    let b = bit(states);
-    if 0 < b { b - 1 } else { 18446744073709551615 }
+fn all(states: usize) -> Set {
+    let mut set = empty();
+    let mut s = 0;
+    while s < states {
+        set = union(set, single(s));
+        s += 1;
+    }
+    set
 }
 
 // One step along an axis on which neighbours are `stride` apart. A wall leaves the state as it is.
@@ -75,12 +80,12 @@ fn stride_of(axis: usize, n: usize) -> usize
     }
 }
 
-fn grid_step(n: usize, command: usize, state: usize) -> u64
+fn grid_step(n: usize, command: usize, state: usize) -> Set
     requires { ⌜ n ≤ 8 ⌝ }
     requires { ⌜ state < 64 ⌝ }
 {
     let stride = stride_of(command / 2, n);
-    bit(moved(state, stride, n, command % 2 == 1))
+    single(moved(state, stride, n, command % 2 == 1))
 }
 
 // State i < n: package i holds the armed bomb; state n: it is disarmed. Command i dunks package i.
@@ -89,46 +94,54 @@ fn bomb_after(n: usize, command: usize, state: usize) -> usize {
 }
 
 // A toilet that clogs: the states n + 1 further on have it clogged. A dunk is impossible there, and clogs, for sure or perhaps; command n flushes.
-fn clog_step(n: usize, command: usize, state: usize, sure: bool) -> u64
+fn clog_step(n: usize, command: usize, state: usize, sure: bool) -> Set
     requires { ⌜ n ≤ 30 ⌝ }
     requires { ⌜ state < 64 ⌝ }
 {
     if command == n {
-        return bit(state % (n + 1));
+        return single(state % (n + 1));
     }
     if n < state {
-        return 0;
+        return empty();
     }
     let after = bomb_after(n, command, state);
-    let clogged = if after <= n { bit(after + n + 1) } else { 0 };
-    if sure { clogged } else { bit(after) | clogged }
+    let clogged = if after <= n {
+        single(after + n + 1)
+    } else {
+        empty()
+    };
+    if sure {
+        clogged
+    } else {
+        union(single(after), clogged)
+    }
 }
 
 // The following set of a command and a state.
-fn following(d: Domain, command: usize, state: usize) -> u64 {
+fn following(d: Domain, command: usize, state: usize) -> Set {
     if 64 <= state {
-        return 0;
+        return empty();
     }
     if d.kind == GRID {
         if d.n <= 8 {
             return grid_step(d.n, command, state);
         }
-        return 0;
+        return empty();
     }
     if d.kind == BOMB {
-        return bit(bomb_after(d.n, command, state));
+        return single(bomb_after(d.n, command, state));
     }
     if d.n <= 30 {
         return clog_step(d.n, command, state, d.kind == CLOGS);
     }
-    0
+    empty()
 }
 
 // The following set at index j of the table.
-fn at_index(d: Domain, j: usize) -> u64 {
+fn at_index(d: Domain, j: usize) -> Set {
     let states = d.states;
     if states == 0 {
-        return 0;
+        return empty();
     }
     following(d, j / states, j % states)
 }
@@ -137,7 +150,7 @@ fn table_of(d: Domain) -> [u64; 2048] {
     let mut sets = [0u64; 2048];
     let mut j: usize = 0;
     while j < 2048 {
-        sets[j] = at_index(d, j);
+        sets[j] = to_word(at_index(d, j));
         j += 1;
     }
     sets
@@ -151,8 +164,8 @@ fn write_first(d: Domain, sets: &[u64], total: usize, out: &mut [u8]) -> usize {
     match writer::write(
         d.states,
         d.commands,
-        of_word(d.initial),
-        of_word(d.goal),
+        d.initial,
+        d.goal,
         &sets[0..total],
         out,
     ) {
@@ -221,7 +234,7 @@ fn square(n: usize, states: usize, goal: usize) -> Domain {
         states,
         commands: 4,
         initial: all(states),
-        goal: bit(goal),
+        goal: single(goal),
     }
 }
 
@@ -234,7 +247,7 @@ fn bomb(p: usize) -> Domain
         states: p + 1,
         commands: p,
         initial: all(p),
-        goal: bit(p),
+        goal: single(p),
     }
 }
 
@@ -247,7 +260,7 @@ fn clogging(kind: u8, p: usize) -> Domain
         states: 2 * p + 2,
         commands: p + 1,
         initial: all(p),
-        goal: bit(p) | bit(2 * p + 1),
+        goal: union(single(p), single(2 * p + 1)),
     }
 }
 
@@ -270,7 +283,7 @@ fn cube_rows() {
             states: 64,
             commands: 6,
             initial: all(64),
-            goal: bit(0),
+            goal: single(0),
         },
     );
 }

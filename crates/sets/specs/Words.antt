@@ -1,5 +1,6 @@
--- The set that a value of type `Set` stands for, by its words. `setOf` and `setFor` stay shut: only this crate opens them, so no other proof knows
--- how many words a set has.
+-- The set that a value of type `Set` stands for, by its words. `setOf` and `setFor` stay shut: besides this crate only examples that are computed open
+-- them, so no other proof knows how many words a set has.
+use mathlib.Core.Path.{_≡_}
 use mathlib.Core.List.{List, [], _∷_}
 use Prim.Native.Nat.{ℕ, _+_, _*_, _^_}
 
@@ -27,3 +28,7 @@ setOf x = ofWords 64 (wordsOf x)
 -- the value that stands for a set of states below `most`
 unfoldable pub setFor : ℕ → Value
 setFor y = y
+
+-- x is the value that stands for its set
+abbrev pub IsValue : Value → Type 0
+IsValue x = x ≡ setFor (setOf x)

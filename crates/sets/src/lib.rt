@@ -1,5 +1,5 @@
 // Sets of states as 64-bit numbers: bit s stands for state s. This is the only place with masks and shifts on sets, and every question that is asked of
-// a set is asked here: no other crate knows that a set is a number. Each function is what a definition of `meaning` says.
+// a set is asked here: no other crate knows that a set is a number. Each contract is in the words of `meaning`.
 ghost use mathlib.Core.Path.{_≡_};
 ghost use mathlib.Core.Bool.{cond};
 ghost use Prim.Native.Nat.{_<_, _^_};

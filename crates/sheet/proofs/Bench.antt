@@ -33,6 +33,10 @@ swap x g = sheet21 x g 2 1
 abbrev pub drift : List ℕ
 drift = sheet21 1 2 3 2
 
+-- one command that leads from 0 to 1, and no command that 1 can take
+abbrev pub deadEnd : List ℕ
+deadEnd = sheet21 1 2 2 0
+
 -- ---- what the reader says
 
 pub reads-S : reading (S 1) ≡ Accepted (headWith 2 2 (setFor 3) (setFor 1))
@@ -58,6 +62,10 @@ reads-swap = refl
 pub reads-swap-all : reading (swap 3 1) ≡ Accepted (headWith 2 1 (setFor 3) (setFor 1))
 unfolding reading verdict readingRows headRows setRows sheetIn number
 reads-swap-all = refl
+
+pub reads-dead-end : reading deadEnd ≡ Accepted (headWith 2 1 (setFor 1) (setFor 2))
+unfolding reading verdict readingRows headRows setRows sheetIn number
+reads-dead-end = refl
 
 pub reads-drift : reading drift ≡ Accepted (headWith 2 1 (setFor 1) (setFor 2))
 unfolding reading verdict readingRows headRows setRows sheetIn number

@@ -10,8 +10,8 @@ use lib.Pow.{pow-pos}
 use lib.ListN.{length, getD}
 use borrow.Author.Tests.{le-ltb}
 use Rattle.meaning.specs.Domain.{Within, WellFormed, Start}
-use Rattle.sets.specs.Words.{setOf}
-use Rattle.sets.proofs.Values.{set-for}
+use Rattle.sets.specs.Words.{setOf, IsValue}
+use Rattle.sets.proofs.Values.{set-for, is-value}
 use Rattle.sheet.specs.Sheet.{Sheet, Valid, encode, sheetIn, domain, domainIn, lengthFor}
 use Rattle.sheet.specs.Answers.{reading}
 use Rattle.sheet.specs.declared.Head.{Head}
@@ -43,6 +43,9 @@ module _ (l : List ℕ) (h : Head) (e : reading l ≡ Accepted h) where
       let t = reading-accepts l h e in
       let v = t .accepts .is-valid in
       subst (λ (g : Head). Start (domainIn l) (setOf (g .initial))) (sym (t .head)) (subst (λ (x : ℕ). Start (domainIn l) x) (sym (set-for _)) (record { within = v .initial-within; some-state = v .initial-some }))
+
+  pub initial-value : IsValue (h .initial)
+  initial-value = is-value _ (ap (λ (g : Head). g .initial) (reading-accepts l h e .head))
 
   pub goal-within : Within (domainIn l) (setOf (h .goal))
   unfolding domain

@@ -20,7 +20,7 @@ headOf s = headWith (s .states) (s .commands) (setFor (s .initial)) (setFor (s .
 unfoldable pub reading : List ℕ → Reading
 reading l = verdict Refused (Accepted (headOf (sheetIn l))) (readingRows l)
 
--- the scope's values for each case of a reading: 0 for an accepted sheet, a place of 0, and the head; or the refusal's number and place
+-- the numbers of each case of a reading: those of the table and the place for a refusal; and for an accepted sheet 0, which is no number of the table, and the head
 abbrev pub valuesOf : Reading → List ℕ
 valuesOf (Accepted h) = 0 ∷ 0 ∷ h .states ∷ h .commands ∷ setOf (h .initial) ∷ setOf (h .goal) ∷ []
 valuesOf (Refused f) = f .number ∷ f .place ∷ 0 ∷ 0 ∷ 0 ∷ 0 ∷ []

@@ -1,4 +1,4 @@
--- The following set of a command and a state by a sheet's length and its count of states alone, for whoever has that count from the head: cited by inner contracts.
+-- The following set of a command and a state by a sheet's length and its count of states alone, for whoever has that count from the head.
 use mathlib.Core.Bool.{Bool, cond, _&&_}
 use mathlib.Core.List.{List, []}
 use Prim.Native.Nat.{ℕ, _+_, _*_}

@@ -1,4 +1,4 @@
-// The store of a search: a lent slice of records of set, parent and command. Only the first two functions touch a record; the others look a set up
+// The store of a search: a lent slice of records of set, parent and command. Only `node_at` and `put` touch a record of it; the others look a set up
 // and read a plan back.
 use sets::Set;
 use sets::same;

@@ -31,7 +31,7 @@ writing s room = writingBy (writingRows s room) s
 abbrev pub written : Sheet → List ℕ → List ℕ
 written s out = writtenBy (writingRows s (length out)) s out
 
--- the scope's values for each case: 0 for a sheet that is written, a place of 0, and its bytes; or the refusal's number and place
+-- the numbers of each case: those of the table and the place for a refusal; and for a sheet that is written 0, which is no number of the table, and its bytes
 abbrev pub valuesOf : Writing → List ℕ
 valuesOf (Written n) = 0 ∷ 0 ∷ n ∷ []
 valuesOf (Refused f) = f .number ∷ f .place ∷ 0 ∷ []

@@ -84,7 +84,7 @@ module _ (w : World) where
             let most : room ≤ 65536 = omega (arith, m .5) in (
               tt,
               (
-                (λ none. ((λ _. tt), λ r. ((tt, (refl, (tt, (tt, (refl, tt))))), explored-in (m .5) (no-place pre g room l there (eqb-true room 0 none) (r .5))))),
+                (λ none. ((λ _. tt), λ r. ((tt, (refl, (tt, (tt, (refl, tt))))), explored-in (m .5) (no-place (pre .0) g room l there (eqb-true room 0 none) (r .5))))),
                 (λ there-is.
                     let pos : 0 < room = some room (eqb-false room 0 there-is) in
                     λ γ. (
@@ -98,10 +98,10 @@ module _ (w : World) where
                             λ t. (
                               tt,
                               (
-                                (λ stop. ((tt, (refl, (tt, (tt, (kept (a .1 .1 .1 .1 .0) e, tt))))), explored-in (m .5) (started-ended pre g room l there pos (a .1 .1 .0) refl (q .5) (t .5) (eqb-false (t .1 .kind) 3 (not-true _ stop))))),
+                                (λ stop. ((tt, (refl, (tt, (tt, (kept (a .1 .1 .1 .1 .0) e, tt))))), explored-in (m .5) (started-ended (pre .0) g room l there pos (a .1 .1 .0) refl (pre .1) (q .5) (t .5) (eqb-false (t .1 .kind) 3 (not-true _ stop))))),
                                 (λ on.
                                     let z : t .1 .kind ≡ 3 = eqb-true (t .1 .kind) 3 (not-false _ on) in
-                                    λ γ₂. (refl, ((λ _. started-asks pre g room l there pos (a .1 .1 .0) refl (q .5) (t .5) most z), λ p. (refl, λ e₂. ((tt, (refl, (tt, (tt, (kept (a .1 .1 .1 .1 .0) (e₂ ∙ e), tt))))), explored-in (m .5) (started-ran pre g room l there pos (a .1 .1 .0) refl (q .5) (t .5) most z (p .5))))))),
+                                    λ γ₂. (refl, ((λ _. started-asks (pre .0) g room l there pos (a .1 .1 .0) refl (pre .1) (q .5) (t .5) most z), λ p. (refl, λ e₂. ((tt, (refl, (tt, (tt, (kept (a .1 .1 .1 .1 .0) (e₂ ∙ e), tt))))), explored-in (m .5) (started-ran (pre .0) g room l there pos (a .1 .1 .0) refl (pre .1) (q .5) (t .5) most z (p .5))))))),
                               ),
                             ),
                           ),

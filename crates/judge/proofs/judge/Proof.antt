@@ -3,6 +3,7 @@ use mathlib.Core.Path.{_≡_, sym, _∙_}
 use borrow.Author.Needs.{needs}
 use Rattle.sets.specs.Words.{Value}
 use Rattle.sheet.specs.declared.Refusal.{Refusal}
+use Rattle.sheet.proofs.DomainLaws.{initial-value}
 use Rattle.judge.specs.declared.Verdict.the-variants.{Refused}
 use Rattle.judge.specs.declared.Judged.{Judged}
 use Rattle.judge.proofs.ByReading.{by-refusal, by-head}
@@ -19,7 +20,9 @@ enum-known-head : tie.Need-enum-known-head
 enum-known-head c = search needs
 
 judge-by-requires : tie.Need-judge-by-requires
-judge-by-requires c κs = search needs
+judge-by-requires c κs =
+    let r = c .before .before .before in
+    initial-value (r .before .before .before .args .sheet .now) _ (sym (r .read .ensures .answer) ∙ c .before .head .given .1)
 
 empty-requires : tie.Need-empty-requires
 empty-requires c κs = search needs
@@ -39,7 +42,7 @@ returns-2 : tie.Need-returns-2
 returns-2 c =
     let r = c .before .before .before .before in
     let a = r .before .before .before .args in
-    by-head (a .sheet .now) (a .plan .now) (c .judge-by .result) (sym (r .read .ensures .answer) ∙ c .before .before .head .given .1) (c .judge-by .ensures)
+    by-head (a .sheet .now) (a .plan .now) (c .judge-by .result) (sym (r .read .ensures .answer) ∙ c .before .before .head .given .1) (c .judge-by .ensures .1) (c .judge-by .ensures .0)
 
 pub judge-spec : {M : Type 1} → statement M
 judge-spec =

@@ -9,7 +9,7 @@ use Rattle.meaning.specs.Answers as answers
 use Rattle.meaning.specs.Answers.{Judges, AllCommands, judged}
 use Rattle.meaning.proofs.JudgeLaws.{judges-no-command, judges-not-sendable, judges-outside, judges-inside}
 use Rattle.sets.specs.Words.{setOf}
-use Rattle.sets.proofs.Values.{stands-for}
+use Rattle.sets.proofs.Values.{stands-for, is-value, same-value}
 use Rattle.follow.specs.Following.{domainBy}
 use Rattle.judge.proofs.judge_by.Statement.{statement}
 use Rattle.judge.proofs.judge_by.Tie as tie
@@ -27,12 +27,15 @@ returns : tie.Need-returns
 returns c =
     let d = c .before .before .before in
     let a = d .before .before .before .args in
-    subst (Judges (domainBy (a .head) (a .sheet .now)) (setOf (a .head .initial)) (setOf (a .head .goal)) (a .plan .now))
-    (sym (c .refused .ensures ∙ ap (judged (answers.refused 10) (d .first-missing .result)) (stands-for (c .before .empty .ensures))))
-    (judges-no-command (domainBy (a .head) (a .sheet .now)) (setOf (a .head .initial)) (setOf (a .head .goal)) (a .plan .now) (d .first-missing .ensures .missing (c .before .before .if1 .taken)))
+    let e = c .before .empty .ensures in (
+      same-value (c .refused .ensures .0) (is-value _ e),
+      subst (Judges (domainBy (a .head) (a .sheet .now)) (setOf (a .head .initial)) (setOf (a .head .goal)) (a .plan .now))
+          (sym (c .refused .ensures .1 ∙ ap (judged (answers.refused 10) (d .first-missing .result)) (stands-for e)))
+          (judges-no-command (domainBy (a .head) (a .sheet .now)) (setOf (a .head .initial)) (setOf (a .head .goal)) (a .plan .now) (d .first-missing .ensures .missing (c .before .before .if1 .taken))),
+    )
 
 walk-requires : tie.Need-walk-requires
-walk-requires c κs = search needs
+walk-requires c κs = c .before .before .before .before .pre
 
 refused-requires-2 : tie.Need-refused-requires-2
 refused-requires-2 c κs = search needs
@@ -47,13 +50,15 @@ all-commands c =
 returns-2 : tie.Need-returns-2
 returns-2 c =
     let w = c .before .before .before in
-    let a = w .before .before .before .before .before .args in
-    subst (Judges (domainBy (a .head) (a .sheet .now)) (setOf (a .head .initial)) (setOf (a .head .goal)) (a .plan .now)) (sym (c .refused2 .ensures))
-    (judges-not-sendable (domainBy (a .head) (a .sheet .now)) (setOf (a .head .initial)) (setOf (a .head .goal)) (a .plan .now) (all-commands (w .before)) (w .walk .ensures .blocked (c .before .if2 .taken)))
+    let a = w .before .before .before .before .before .args in (
+      same-value (c .refused2 .ensures .0) (w .walk .ensures .0),
+      subst (Judges (domainBy (a .head) (a .sheet .now)) (setOf (a .head .initial)) (setOf (a .head .goal)) (a .plan .now)) (sym (c .refused2 .ensures .1))
+          (judges-not-sendable (domainBy (a .head) (a .sheet .now)) (setOf (a .head .initial)) (setOf (a .head .goal)) (a .plan .now) (all-commands (w .before)) (w .walk .ensures .1 .blocked (c .before .if2 .taken))),
+    )
 
 -- past the second test the walk came to the plan's end
 whole : (c : tie.Else2) → c .before .before .walk .result .at ≡ length (c .before .before .before .before .before .before .before .args .plan .now)
-whole c = omega (arith, c .before .before .walk .ensures .upto)
+whole c = omega (arith, c .before .before .walk .ensures .1 .upto)
 
 inside-requires : tie.Need-inside-requires
 inside-requires c κs = search needs
@@ -65,10 +70,12 @@ returns-3 : tie.Need-returns-3
 returns-3 c =
     let i = c .before .before in
     let w = i .before .before .before in
-    let a = w .before .before .before .before .before .args in
-    subst (Judges (domainBy (a .head) (a .sheet .now)) (setOf (a .head .initial)) (setOf (a .head .goal)) (a .plan .now)) (sym (c .refused3 .ensures))
-    (judges-outside (domainBy (a .head) (a .sheet .now)) (setOf (a .head .initial)) (setOf (a .head .goal)) (a .plan .now) (all-commands (w .before))
-    (w .walk .ensures .ended (whole (i .before))) (i .inside .ensures .if-false (not-true (i .inside .result) (c .before .if3 .taken))))
+    let a = w .before .before .before .before .before .args in (
+      same-value (c .refused3 .ensures .0) (w .walk .ensures .0),
+      subst (Judges (domainBy (a .head) (a .sheet .now)) (setOf (a .head .initial)) (setOf (a .head .goal)) (a .plan .now)) (sym (c .refused3 .ensures .1))
+          (judges-outside (domainBy (a .head) (a .sheet .now)) (setOf (a .head .initial)) (setOf (a .head .goal)) (a .plan .now) (all-commands (w .before))
+          (w .walk .ensures .1 .ended (whole (i .before))) (i .inside .ensures .if-false (not-true (i .inside .result) (c .before .if3 .taken)))),
+    )
 
 ones-requires : tie.Need-ones-requires
 ones-requires c κs = search needs
@@ -77,11 +84,13 @@ returns-4 : tie.Need-returns-4
 returns-4 c =
     let i = c .before .before in
     let w = i .before .before .before in
-    let a = w .before .before .before .before .before .args in
-    subst (Judges (domainBy (a .head) (a .sheet .now)) (setOf (a .head .initial)) (setOf (a .head .goal)) (a .plan .now))
-    (ap (λ (n : ℕ). let j : answers.Judged = record { verdict = answers.good; place = 0; set = setOf (w .walk .result .set); left = n } in j) (sym (c .ones .ensures)))
-    (judges-inside (domainBy (a .head) (a .sheet .now)) (setOf (a .head .initial)) (setOf (a .head .goal)) (a .plan .now) (all-commands (w .before))
-    (w .walk .ensures .ended (whole (i .before))) (i .inside .ensures .if-true (not-false (i .inside .result) (c .before .if3 .left))))
+    let a = w .before .before .before .before .before .args in (
+      w .walk .ensures .0,
+      subst (Judges (domainBy (a .head) (a .sheet .now)) (setOf (a .head .initial)) (setOf (a .head .goal)) (a .plan .now))
+          (ap (λ (n : ℕ). let j : answers.Judged = record { verdict = answers.good; place = 0; set = setOf (w .walk .result .set); left = n } in j) (sym (c .ones .ensures)))
+          (judges-inside (domainBy (a .head) (a .sheet .now)) (setOf (a .head .initial)) (setOf (a .head .goal)) (a .plan .now) (all-commands (w .before))
+          (w .walk .ensures .1 .ended (whole (i .before))) (i .inside .ensures .if-true (not-false (i .inside .result) (c .before .if3 .left)))),
+    )
 
 pub judge-by-spec : {M : Type 1} → statement M
 judge-by-spec =

@@ -7,7 +7,7 @@ use Rattle.store.proofs.SetSteps.{set-arg}
 use Rattle.store.proofs.Types.{byte, node-type}
 use Rattle.explore.proofs.Types.{head-type}
 use Rattle.search.specs.Endings.{isRefused}
-use Rattle.search.proofs.SheetLaws.{engine-ready, engine-done, sheet-refused}
+use Rattle.search.proofs.SheetLaws.{engine-ready, engine-value, engine-done, sheet-refused}
 use Rattle.search.proofs.Types.{reading-type, initial-of, goal-of}
 use Rattle.search.proofs.Jobs as jobs
 use Rattle.search.proofs.Jobs.{search as job}
@@ -70,7 +70,7 @@ module _ (w : World) where
         (λ no.
             let q : isRefused (r .1) ≡ false = sym (b .5) ∙ no in (
               (λ _. tt),
-              λ h. λ γ. (refl, λ γ₂. (refl, ((λ _. engine-ready (a .0 .now) (r .1) (r .5 .answer) q (h .5)), λ z. (refl, λ e. (refl, λ e₂. ((refl, (kept (a .1 .0) e₂, (kept (a .1 .1 .0) e, tt))), engine-done (a .0 .now) (r .1) (r .5 .answer) q (h .5) (z .5))))))),
+              λ h. λ γ. (refl, λ γ₂. (refl, ((λ _. (engine-ready (a .0 .now) (r .1) (r .5 .answer) q (h .5), engine-value (a .0 .now) (r .1) (r .5 .answer) q (h .5))), λ z. (refl, λ e. (refl, λ e₂. ((refl, (kept (a .1 .0) e₂, (kept (a .1 .1 .0) e, tt))), engine-done (a .0 .now) (r .1) (r .5 .answer) q (h .5) (z .5))))))),
             )),
       ),
     ),

@@ -16,6 +16,9 @@ loop-holds c = search needs
 at-index-requires : tie.Need-at-index-requires Inv-loop μ-loop
 at-index-requires c κs = search needs
 
+to-word-requires : tie.Need-to-word-requires Inv-loop μ-loop
+to-word-requires c κs = search needs
+
 mul-sets : tie.Need-mul-sets Inv-loop μ-loop
 mul-sets c = search needs
 
@@ -42,6 +45,7 @@ table-of-spec =
     μ-loop
     loop-holds
     at-index-requires
+    to-word-requires
     mul-sets
     array-write-sets
     add-j
