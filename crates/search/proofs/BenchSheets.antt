@@ -1,7 +1,6 @@
 -- The starred examples are of sheets: each row's sheet is valid, its bytes are accepted, and the reply is the one that the definitions ask for of the sheet's own
 -- domain. The idea: a row's domain is its sheet's by definition, and that the sheets are valid is computed for the whole table in one go.
 use mathlib.Core.Path.{_≡_, refl, sym, ap, subst}
-use mathlib.Core.Bool.{false}
 use mathlib.Core.List.{map}
 use Prim.Native.Nat.{ℕ, _*_}
 use lib.ListN.{length}
@@ -15,6 +14,7 @@ use Rattle.sets.proofs.Values.{set-for}
 use Rattle.sheet.specs.Sheet.{Sheet, sheetWith, Valid, encode, domain, domainIn}
 use Rattle.sheet.specs.Refusals.{verdict, headRows, setRows, sheetRows}
 use Rattle.sheet.specs.Answers.{headOf, reading}
+use Rattle.sheet.specs.declared.Counted.the-variants.{Given}
 use Rattle.sheet.specs.declared.Check.{Check}
 use Rattle.sheet.specs.declared.Check.the-variants.{Passed, Failed}
 use Rattle.sheet.specs.declared.Reading.the-variants.{Accepted}
@@ -33,7 +33,7 @@ same-domain t = refl
 -- ---- the sheets are valid
 
 checks : Example → Check
-checks e = verdict Failed Passed (sheetRows false (sheetOf (e .sheet)))
+checks e = verdict Failed Passed (sheetRows (Given (length (e .sheet .sets))) (sheetOf (e .sheet)))
 
 all-pass : map checks examples ≡ map (λ (e : Example). Passed) examples
 unfolding checks verdict headRows setRows
@@ -44,7 +44,7 @@ all-complete = refl
 
 example-valid : {k : ℕ} {e : Example} → At examples k e → Valid (sheetOf (e .sheet))
 unfolding checks
-example-valid {e = e} u = valid false (sheetOf (e .sheet))
+example-valid {e = e} u = valid (Given (length (e .sheet .sets))) (sheetOf (e .sheet))
     (map-same (λ (x : Example). length (x .sheet .sets)) (λ (x : Example). x .sheet .commands * x .sheet .states) all-complete u)
     (record { passes = map-same checks (λ (x : Example). Passed) all-pass u })
 

@@ -11,7 +11,7 @@ use borrow.Author.Tests.{le-ltb, eq-eqb, eqb-true, not-false}
 use Rattle.meaning.proofs.Tests.{clash}
 use Rattle.numbers.specs.Bytes.{numberAt}
 use Rattle.sheet.specs.Sheet.{Valid, sheetIn, setIn, statedFor, lengthFor}
-use Rattle.sheet.specs.Refusals.{verdict, unevenBy, stated, readingRows}
+use Rattle.sheet.specs.Refusals.{verdict, stated, readingRows}
 use Rattle.sheet.specs.Answers.{headOf, reading}
 use Rattle.sheet.specs.declared.Head.{Head}
 use Rattle.sheet.specs.declared.Counted.the-variants.{Stated}
@@ -39,12 +39,12 @@ none-accepts l n =
     let n₂ = none-rest n₁ in
     let n₃ = none-rest n₂ in
     let whole : 5 + stated l ≡ length l = eqb-true (5 + stated l) (length l) (not-false _ (or-false (not (eqb (5 + stated l) (length l))) (ltb (stated l) 18) (none-here n₂) .0)) in
-    let evenly : stated l ≡ statedFor (sheetIn l .states) (sheetIn l .commands) = eqb-true (stated l) (statedFor (sheetIn l .states) (sheetIn l .commands)) (not-false _ (even (unevenBy (Stated (stated l)) (sheetIn l .commands * sheetIn l .states)) (sheetIn l) n₃)) in
+    let evenly : stated l ≡ statedFor (sheetIn l .states) (sheetIn l .commands) = eqb-true (stated l) (statedFor (sheetIn l .states) (sheetIn l .commands)) (not-false _ (even (Stated (stated l)) (sheetIn l) n₃)) in
     record {
       version-is = eqb-true (numberAt 0 1 l) 1 (not-false _ (none-here n₁));
       stated-is = evenly;
       long = omega arith;
-      is-valid = valid (unevenBy (Stated (stated l)) (sheetIn l .commands * sheetIn l .states)) (sheetIn l) (complete l) n₃;
+      is-valid = valid (Stated (stated l)) (sheetIn l) (complete l) n₃;
     }
 
 pub accepts-none : (l : List ℕ) → Accepts l → NoneHold (readingRows l)
@@ -53,7 +53,7 @@ accepts-none l a =
     none-cons (le-ltb (length l) 5 (omega (arith, a .long)))
     (none-cons (ap not (eq-eqb (numberAt 0 1 l) 1 (a .version-is)))
     (none-cons (both-false (ap not (eq-eqb (5 + stated l) (length l) (omega (arith, a .long, a .stated-is)))) (le-ltb (stated l) 18 (omega (arith, a .stated-is))))
-    (passes-valid (unevenBy (Stated (stated l)) (sheetIn l .commands * sheetIn l .states)) (sheetIn l) (ap not (eq-eqb (stated l) (statedFor (sheetIn l .states) (sheetIn l .commands)) (a .stated-is))) (a .is-valid))))
+    (passes-valid (Stated (stated l)) (sheetIn l) (ap not (eq-eqb (stated l) (statedFor (sheetIn l .states) (sheetIn l .commands)) (a .stated-is))) (a .is-valid))))
 
 -- ---- the answer
 

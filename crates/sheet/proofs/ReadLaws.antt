@@ -11,7 +11,7 @@ use borrow.Author.Tests.{le-ltb, eq-eqb}
 use Rattle.sets.specs.Words.{setOf}
 use Rattle.sets.proofs.Values.{set-for}
 use Rattle.sheet.specs.Sheet.{Sheet, sheetIn, setsAt, setWidth, setIn, from}
-use Rattle.sheet.specs.Refusals.{Row, verdict, unevenBy, headRows, setRows, sheetRows, stated, readingRows}
+use Rattle.sheet.specs.Refusals.{verdict, unevenBy, headRows, setRows, sheetRows, stated, readingRows}
 use Rattle.sheet.specs.Answers.{headOf, reading, BytesIf}
 use Rattle.sheet.specs.declared.Head.{Head}
 use Rattle.sheet.specs.declared.Refusal.{Refusal}
@@ -27,16 +27,9 @@ use Rattle.numbers.proofs.Inverse.{bytes-one, bytes-add}
 use Rattle.sheet.proofs.Readings.{not-both}
 use Rattle.sheet.proofs.Rows.{onCheck, checked, by-check, passes-here, passes-rest, product, most}
 
--- rows 4 to 7 by what is said of the number of following sets
-abbrev pub headRowsBy : Counted → ℕ → ℕ → ℕ → ℕ → List Row
-headRowsBy n states commands initial goal = headRows (unevenBy n (commands * states)) states commands initial goal
-
-abbrev pub sheetRowsBy : ℕ → Sheet → List Row
-sheetRowsBy n s = sheetRows (unevenBy (Stated n) (s .commands * s .states)) s
-
 -- what the check of a head says
 abbrev pub checkBy : Counted → ℕ → ℕ → ℕ → ℕ → Check
-checkBy n states commands initial goal = verdict Failed Passed (headRowsBy n states commands initial goal)
+checkBy n states commands initial goal = verdict Failed Passed (headRows n states commands initial goal)
 
 module _ (n : Counted) (states commands initial goal : ℕ) (e : checkBy n states commands initial goal ≡ Passed) where
   -- a head that passes has as many following sets as was said
@@ -59,7 +52,7 @@ check-of n s = sym (ap₂ (λ (x y : ℕ). checkBy n (s .states) (s .commands) x
 module _ (l : List ℕ) where
   -- the answer by rows 4 to 8
   abbrev pub answerBy : ℕ → Reading
-  answerBy n = verdict Refused (Accepted (headOf (sheetIn l))) (sheetRowsBy n (sheetIn l))
+  answerBy n = verdict Refused (Accepted (headOf (sheetIn l))) (sheetRows (Stated n) (sheetIn l))
 
   -- the answer by row 8
   abbrev pub answerBySets : Reading
@@ -74,7 +67,7 @@ module _ (l : List ℕ) where
     pub by-head : (n : ℕ) (k : Check) → k ≡ checkOf (Stated n) h → answerBy n ≡ onCheck Refused answerBySets k
     by-head n k e =
         let s : Sheet = sheetIn l in
-        checked Refused (Accepted (headOf s)) (headRowsBy (Stated n) (s .states) (s .commands) (s .initial) (s .goal)) (setRows (s .states) setsAt (s .sets))
+        checked Refused (Accepted (headOf s)) (headRows (Stated n) (s .states) (s .commands) (s .initial) (s .goal)) (setRows (s .states) setsAt (s .sets))
         ∙ ap (λ (c : Check). onCheck Refused answerBySets c) (check-of (Stated n) s ∙ ap (checkOf (Stated n)) (sym same) ∙ sym e)
 
     pub by-sets : (k : Check) → k ≡ verdict Failed Passed (setRows (h .states) setsAt (map (setIn l) (from 0 (h .commands * h .states)))) → answerBySets ≡ onCheck Refused (Accepted h) k

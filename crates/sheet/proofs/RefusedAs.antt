@@ -5,14 +5,15 @@ use mathlib.Core.Logic.{_↔_}
 use mathlib.Core.Bool.{Bool, true, false, cond}
 use mathlib.Core.Option.{some}
 use mathlib.Core.List.{List, [], _∷_, _++_}
-use Prim.Native.Nat.{ℕ, zero, suc, _+_, _*_, _<_, _≤_}
+use Prim.Native.Nat.{ℕ, zero, suc, _+_, _<_, _≤_}
 use native.Mathlib.Omega.{arith}
 use lib.ListN.{getElem?}
 use Rattle.meaning.proofs.Tests.{clash}
 use Rattle.sheet.specs.Sheet.{Sheet, sheetIn, setsAt, setWidth}
-use Rattle.sheet.specs.Refusals.{Row, verdict, headRows, setRows, sheetRows, unevenBy, stated, readingRows}
+use Rattle.sheet.specs.Refusals.{Row, verdict, headRows, setRows, sheetRows, stated, readingRows}
 use Rattle.sheet.specs.Answers.{headOf, reading}
 use Rattle.sheet.specs.declared.Refusal.{Refusal}
+use Rattle.sheet.specs.declared.Counted.{Counted}
 use Rattle.sheet.specs.declared.Counted.the-variants.{Stated}
 use Rattle.sheet.specs.declared.Reading.the-variants.{Accepted, Refused}
 use Rattle.sheet.specs.declared.Check.{Check}
@@ -84,18 +85,18 @@ unfolding setRows
 each-set low high l h states at [] = tt
 each-set low high l h states at (x ∷ xs) = ((l, h), each-set low high l h states (at + setWidth) xs)
 
-each-head : (uneven : Bool) (states commands initial goal : ℕ) → Each 4 7 (headRows uneven states commands initial goal)
+each-head : (counted : Counted) (states commands initial goal : ℕ) → Each 4 7 (headRows counted states commands initial goal)
 unfolding headRows
-each-head uneven states commands initial goal = omega arith
+each-head counted states commands initial goal = omega arith
 
 wider : (low high : ℕ) → low ≤ 4 → 7 ≤ high → (rs : List Row) → Each 4 7 rs → Each low high rs
 wider low high l h [] e = tt
 wider low high l h (r ∷ rs) e = ((omega (arith, e .0 .0), omega (arith, e .0 .1)), wider low high l h rs (e .1))
 
-pub each-sheet : (low high : ℕ) → low ≤ 4 → 8 ≤ high → (uneven : Bool) (s : Sheet) → Each low high (sheetRows uneven s)
-each-sheet low high l h uneven s =
-    let rows : List Row = headRows uneven (s .states) (s .commands) (s .initial) (s .goal) in
-    each-append low high rows (setRows (s .states) setsAt (s .sets)) (wider low high l (omega arith) rows (each-head uneven (s .states) (s .commands) (s .initial) (s .goal))) (each-set low high (omega arith) h (s .states) setsAt (s .sets))
+pub each-sheet : (low high : ℕ) → low ≤ 4 → 8 ≤ high → (counted : Counted) (s : Sheet) → Each low high (sheetRows counted s)
+each-sheet low high l h counted s =
+    let rows : List Row = headRows counted (s .states) (s .commands) (s .initial) (s .goal) in
+    each-append low high rows (setRows (s .states) setsAt (s .sets)) (wider low high l (omega arith) rows (each-head counted (s .states) (s .commands) (s .initial) (s .goal))) (each-set low high (omega arith) h (s .states) setsAt (s .sets))
 
 pub each-gives : (low high : ℕ) (rs : List Row) (q : Refusal) → Each low high rs → verdict Failed Passed rs ≡ Failed q → Between low high q
 unfolding verdict
@@ -109,4 +110,4 @@ each-gives low high (r ∷ rs) q e f = go (r .holds) f (each-gives low high rs q
 pub reading-gives : (l : List ℕ) (q : Refusal) → reading l ≡ Refused q → Between 1 8 q
 unfolding readingRows
 reading-gives l q e =
-    each-gives 1 8 (readingRows l) q (omega arith, (omega arith, (omega arith, each-sheet 1 8 (omega arith) (omega arith) (unevenBy (Stated (stated l)) (sheetIn l .commands * sheetIn l .states)) (sheetIn l)))) (given-fails (readingRows l) q (refused-as l q .0 e))
+    each-gives 1 8 (readingRows l) q (omega arith, (omega arith, (omega arith, each-sheet 1 8 (omega arith) (omega arith) (Stated (stated l)) (sheetIn l)))) (given-fails (readingRows l) q (refused-as l q .0 e))

@@ -1,7 +1,7 @@
 -- A sheet is valid exactly where rows 4 to 8 pass and it has a following set for each command and state.
 -- The idea: each part of `Valid` is the condition of a row, turned round.
 use mathlib.Core.Path.{_≡_, refl, _∙_}
-use mathlib.Core.Bool.{Bool, false}
+use mathlib.Core.Bool.{false}
 use mathlib.Core.List.{List, [], _∷_}
 use Prim.Native.Nat.{ℕ, zero, suc, _+_, _*_, _^_, _≤_, _<_}
 use lib.Dec.{eqb}
@@ -9,7 +9,8 @@ use lib.Pow.{pow-pos}
 use lib.ListN.{length, getD}
 use borrow.Author.Tests.{le-ltb, lt-leb, ne-eqb, leb-false, eqb-false}
 use Rattle.sheet.specs.Sheet.{Sheet, Valid, setsAt, setWidth}
-use Rattle.sheet.specs.Refusals.{Row, verdict, headRows, setRows, sheetRows, missing, outside}
+use Rattle.sheet.specs.Refusals.{Row, verdict, unevenBy, headRows, setRows, sheetRows, missing, outside}
+use Rattle.sheet.specs.declared.Counted.{Counted}
 use Rattle.sheet.specs.declared.Check.the-variants.{Passed, Failed}
 use Rattle.sheet.proofs.Rows.{passes-here, passes-rest, holds-not, least, most, or-false, both-false}
 
@@ -45,8 +46,8 @@ within-sets states at (x ∷ xs) h = none-cons (lt-leb (2 ^ states) x (h 0)) (wi
 
 -- ---- the sheet
 
-module _ (uneven : Bool) (s : Sheet) where
-  pub valid : length (s .sets) ≡ s .commands * s .states → NoneHold (sheetRows uneven s) → Valid s
+module _ (counted : Counted) (s : Sheet) where
+  pub valid : length (s .sets) ≡ s .commands * s .states → NoneHold (sheetRows counted s) → Valid s
   unfolding headRows
   valid c n =
       let states-in = none-here n in
@@ -67,11 +68,11 @@ module _ (uneven : Bool) (s : Sheet) where
         sets-within = sets-within (s .states) setsAt (s .sets) (none-rest n₄);
       }
 
-  pub even : NoneHold (sheetRows uneven s) → uneven ≡ false
+  pub even : NoneHold (sheetRows counted s) → unevenBy counted (s .commands * s .states) ≡ false
   unfolding headRows
   even n = none-here (none-rest (none-rest n))
 
-  pub passes-valid : uneven ≡ false → Valid s → NoneHold (sheetRows uneven s)
+  pub passes-valid : unevenBy counted (s .commands * s .states) ≡ false → Valid s → NoneHold (sheetRows counted s)
   unfolding headRows
   passes-valid e v =
       none-cons (inside 1 64 (s .states) (v .some-state) (v .states-fit))

@@ -45,17 +45,17 @@ unevenBy (Stated n) sets = not (eqb n (18 + setWidth * sets))
 unevenBy (Given n) sets = not (eqb n sets)
 
 -- rows 4 to 7, and with the following sets 4 to 8
-unfoldable pub headRows : Bool → ℕ → ℕ → ℕ → ℕ → List Row
-headRows uneven states commands initial goal =
+unfoldable pub headRows : Counted → ℕ → ℕ → ℕ → ℕ → List Row
+headRows counted states commands initial goal =
     row (outside 1 64 states) 4 5 ∷
     row (outside 1 32 commands) 4 6 ∷
-    row uneven 5 1 ∷
+    row (unevenBy counted (commands * states)) 5 1 ∷
     row (eqb initial 0 || missing states initial) 6 7 ∷
     row (missing states goal) 7 15 ∷
     []
 
-abbrev pub sheetRows : Bool → Sheet → List Row
-sheetRows uneven s = headRows uneven (s .states) (s .commands) (s .initial) (s .goal) ++ setRows (s .states) setsAt (s .sets)
+abbrev pub sheetRows : Counted → Sheet → List Row
+sheetRows counted s = headRows counted (s .states) (s .commands) (s .initial) (s .goal) ++ setRows (s .states) setsAt (s .sets)
 
 abbrev pub stated : List ℕ → ℕ
 stated l = numberAt 1 4 l
@@ -65,4 +65,4 @@ readingRows l =
     row (ltb (length l) 5) 1 (length l) ∷
     row (not (eqb (numberAt 0 1 l) 1)) 2 0 ∷
     row (not (eqb (5 + stated l) (length l)) || ltb (stated l) 18) 3 1 ∷
-    sheetRows (unevenBy (Stated (stated l)) (sheetIn l .commands * sheetIn l .states)) (sheetIn l)
+    sheetRows (Stated (stated l)) (sheetIn l)

@@ -137,7 +137,7 @@ pub fn check_head(
     initial: Set,
     goal: Set,
 ) -> Check
-    ensures { λ r. ⌜ r ≡ verdict Check.Failed Check.Passed (headRows (unevenBy counted (commands * states)) states commands (setOf initial) (setOf goal)) ⌝ }
+    ensures { λ r. ⌜ r ≡ verdict Check.Failed Check.Passed (headRows counted states commands (setOf initial) (setOf goal)) ⌝ }
 {
     if is_outside(1, 64, states) {
         return failed(4, STATES_AT);
@@ -178,7 +178,7 @@ fn check_sets(sheet: &[u8], states: usize, count: usize) -> Check
 fn read_stated(sheet: &[u8], stated: usize) -> Reading
     requires { ⌜ length (now sheet) ≡ 5 + stated ⌝ }
     requires { ⌜ 18 ≤ stated ⌝ }
-    ensures { λ r. ⌜ r ≡ verdict Reading.Refused (Reading.Accepted (headOf (sheetIn (now (sheet .entry))))) (sheetRows (unevenBy (Counted.Stated stated) (sheetIn (now (sheet .entry)) .commands * sheetIn (now (sheet .entry)) .states)) (sheetIn (now (sheet .entry)))) ⌝ }
+    ensures { λ r. ⌜ r ≡ verdict Reading.Refused (Reading.Accepted (headOf (sheetIn (now (sheet .entry))))) (sheetRows (Counted.Stated stated) (sheetIn (now (sheet .entry)))) ⌝ }
     ensures { λ r. ⌜ BytesIf r (part 5 stated (now (sheet .entry))) ⌝ }
 {
     let states = wide(sheet[STATES_AT]) as usize;

@@ -1,11 +1,10 @@
 -- Both round trips: what is written reads back equal, and an accepted sheet rewrites to the same bytes.
 -- The idea: writing puts out the bytes of a valid sheet, and the bytes of a valid sheet hold it.
 use mathlib.Core.Path.{_≡_, refl, sym, ap, ap₂, _∙_}
-use mathlib.Core.Bool.{Bool, not}
+use mathlib.Core.Bool.{not}
 use mathlib.Core.List.{List, [], _∷_, _++_}
 use Prim.Native.Nat.{ℕ, _*_, _≤_}
 use native.Mathlib.Omega.{arith}
-use lib.Dec.{eqb}
 use lib.ListN.{length, take, drop}
 use lib.Seq.{take-at}
 use borrow.Author.Tests.{le-ltb, ltb-false, eq-eqb, eqb-true, not-false}
@@ -20,6 +19,8 @@ use Rattle.sheet.specs.declared.Head.{Head}
 use Rattle.sheet.specs.declared.Reading.{Reading}
 use Rattle.sheet.specs.declared.Reading.the-variants.{Accepted}
 use Rattle.writer.specs.declared.Writing.the-variants.{Written, Refused}
+use Rattle.sheet.specs.declared.Counted.{Counted}
+use Rattle.sheet.specs.declared.Counted.the-variants.{Given}
 use Rattle.sheet.specs.declared.Check.{Check}
 use Rattle.sheet.specs.declared.Check.the-variants.{Passed, Failed}
 use Rattle.sheet.proofs.Rows.{onCheck, by-check, verdict-append}
@@ -55,18 +56,18 @@ pub record Writes (s : Sheet) (room : ℕ) : Type 0 where
 none-writes : (s : Sheet) (room : ℕ) → NoneHold (writingRows s room) → Writes s room
 unfolding writingRows
 none-writes s room n =
-    let uneven : Bool = not (eqb (length (s .sets)) (s .commands * s .states)) in
-    let p = none-first (sheetRows uneven s) (roomRow s room ∷ []) n in
+    let counted : Counted = Given (length (s .sets)) in
+    let p = none-first (sheetRows counted s) (roomRow s room ∷ []) n in
     record {
-      is-valid = valid uneven s (eqb-true (length (s .sets)) (s .commands * s .states) (not-false _ (even uneven s (p .0)))) (p .0);
+      is-valid = valid counted s (eqb-true (length (s .sets)) (s .commands * s .states) (not-false _ (even counted s (p .0)))) (p .0);
       fits = ltb-false room (lengthFor (s .states) (s .commands)) (none-here (p .1));
     }
 
 writes-none : (s : Sheet) (room : ℕ) → Writes s room → NoneHold (writingRows s room)
 unfolding writingRows
 writes-none s room w =
-    let uneven : Bool = not (eqb (length (s .sets)) (s .commands * s .states)) in
-    none-append (sheetRows uneven s) (roomRow s room ∷ []) (passes-valid uneven s (ap not (eq-eqb (length (s .sets)) (s .commands * s .states) (w .is-valid .complete))) (w .is-valid)) (none-cons (le-ltb room (lengthFor (s .states) (s .commands)) (w .fits)) none-nil)
+    let counted : Counted = Given (length (s .sets)) in
+    none-append (sheetRows counted s) (roomRow s room ∷ []) (passes-valid counted s (ap not (eq-eqb (length (s .sets)) (s .commands * s .states) (w .is-valid .complete))) (w .is-valid)) (none-cons (le-ltb room (lengthFor (s .states) (s .commands)) (w .fits)) none-nil)
 
 -- ---- what is written
 

@@ -2,15 +2,14 @@
 -- The idea: by the rows, as in reading.
 use mathlib.Core.Path.{_≡_, sym, ap, _∙_}
 use mathlib.Core.Logic.{_↔_}
-use mathlib.Core.Bool.{not}
 use mathlib.Core.List.{[], _∷_}
-use Prim.Native.Nat.{ℕ, _*_}
+use Prim.Native.Nat.{ℕ}
 use native.Mathlib.Omega.{arith}
-use lib.Dec.{eqb}
 use lib.ListN.{length}
 use Rattle.meaning.proofs.Tests.{clash}
 use Rattle.sheet.specs.Sheet.{Sheet, lengthFor}
 use Rattle.sheet.specs.Refusals.{verdict, sheetRows}
+use Rattle.sheet.specs.declared.Counted.the-variants as counted
 use Rattle.sheet.specs.declared.Refusal.{Refusal}
 use Rattle.sheet.specs.declared.Check.{Check}
 use Rattle.sheet.specs.declared.Check.the-variants.{Passed, Failed}
@@ -34,4 +33,4 @@ write-refused-as s room q = (λ e. fails-given (writingRows s room) q (there (ve
 pub writing-gives : (s : Sheet) (room : ℕ) (q : Refusal) → writing s room ≡ Refused q → Between 4 9 q
 unfolding writingRows
 writing-gives s room q e =
-    each-gives 4 9 (writingRows s room) q (each-append 4 9 (sheetRows (not (eqb (length (s .sets)) (s .commands * s .states))) s) (roomRow s room ∷ []) (each-sheet 4 9 (omega arith) (omega arith) (not (eqb (length (s .sets)) (s .commands * s .states))) s) (omega arith)) (given-fails (writingRows s room) q (write-refused-as s room q .0 e))
+    each-gives 4 9 (writingRows s room) q (each-append 4 9 (sheetRows (counted.Given (length (s .sets))) s) (roomRow s room ∷ []) (each-sheet 4 9 (omega arith) (omega arith) (counted.Given (length (s .sets))) s) (omega arith)) (given-fails (writingRows s room) q (write-refused-as s room q .0 e))

@@ -1,15 +1,13 @@
 -- Writing, step by step: what the checks of the head and of the following sets say of the answer and of the output, and the output with a sheet stored in it.
 -- The idea: answer and output go by the same rows, so one law over what is answered serves both.
-use mathlib.Core.Path.{_≡_, refl, sym, ap, ap₂, _∙_}
-use mathlib.Core.Bool.{Bool, true, false, not}
+use mathlib.Core.Path.{_≡_, sym, ap, ap₂, _∙_}
 use mathlib.Core.List.{List, [], _∷_, _++_, map, append-assoc}
 use Prim.Native.Nat.{ℕ, _+_, _*_, _≤_, _<_}
 use native.Mathlib.Nat.{zero-add}
 use native.Mathlib.Omega.{arith}
-use lib.Dec.{eqb}
 use lib.ListN.{length, drop}
 use lib.Seq.{sets, sets-eq}
-use borrow.Author.Tests.{lt-ltb, le-ltb, eq-eqb, ne-eqb, eqb-true, eqb-false}
+use borrow.Author.Tests.{lt-ltb, le-ltb}
 use Rattle.numbers.specs.Bytes.{bytesOfEach}
 use Rattle.sheet.specs.Sheet.{Sheet, headBytes, encode, setsAt, setWidth, lengthFor}
 use Rattle.sheet.specs.Refusals.{Row, verdict, headRows, setRows}
@@ -20,7 +18,7 @@ use Rattle.sheet.specs.declared.Counted.the-variants.{Given}
 use Rattle.sheet.specs.declared.Check.{Check}
 use Rattle.sheet.specs.declared.Check.the-variants.{Passed, Failed}
 use Rattle.sheet.proofs.Rows.{onCheck, checked, by-check}
-use Rattle.sheet.proofs.ReadLaws.{headRowsBy, checkBy}
+use Rattle.sheet.proofs.ReadLaws.{checkBy}
 use Rattle.sheet.proofs.Fields.{field, headFields, laid-head, laid-sets, laid-sheet, length-encode}
 use Rattle.writer.proofs.Stores.{fields-stored}
 
@@ -40,8 +38,8 @@ module _ {A : Type 0} (refused : Refusal → A) (otherwise : A) (s : Sheet) (roo
   by-checks : verdict refused otherwise (writingRows s room) ≡ onCheck refused (onCheck refused byRoom (setsCheck s)) (headCheck s)
   unfolding writingRows
   by-checks =
-      ap (λ (rs : List Row). verdict refused otherwise rs) (append-assoc (headRowsBy (Given (length (s .sets))) (s .states) (s .commands) (s .initial) (s .goal)) (setRows (s .states) setsAt (s .sets)) (roomRow s room ∷ []))
-      ∙ checked refused otherwise (headRowsBy (Given (length (s .sets))) (s .states) (s .commands) (s .initial) (s .goal)) (setRows (s .states) setsAt (s .sets) ++ (roomRow s room ∷ []))
+      ap (λ (rs : List Row). verdict refused otherwise rs) (append-assoc (headRows (Given (length (s .sets))) (s .states) (s .commands) (s .initial) (s .goal)) (setRows (s .states) setsAt (s .sets)) (roomRow s room ∷ []))
+      ∙ checked refused otherwise (headRows (Given (length (s .sets))) (s .states) (s .commands) (s .initial) (s .goal)) (setRows (s .states) setsAt (s .sets) ++ (roomRow s room ∷ []))
       ∙ ap (λ (a : A). onCheck refused a (headCheck s)) (checked refused otherwise (setRows (s .states) setsAt (s .sets)) (roomRow s room ∷ []))
 
   pub head-fails : (q : Refusal) → headCheck s ≡ Failed q → verdict refused otherwise (writingRows s room) ≡ refused q

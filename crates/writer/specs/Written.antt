@@ -1,11 +1,11 @@
 -- What writing answers by the table of refusals, and what the output then holds.
 use mathlib.Core.Path.{_≡_}
 use mathlib.Core.List.{List, [], _∷_, _++_}
-use Prim.Native.Nat.{ℕ, _*_}
+use Prim.Native.Nat.{ℕ}
 use lib.Dec.{ltb}
 use lib.ListN.{length, drop}
 use Rattle.sheet.specs.Sheet.{Sheet, encode, lengthFor}
-use Rattle.sheet.specs.Refusals.{Row, row, verdict, unevenBy, sheetRows}
+use Rattle.sheet.specs.Refusals.{Row, row, verdict, sheetRows}
 use Rattle.sheet.specs.declared.Counted.the-variants.{Given}
 use Rattle.writer.specs.declared.Writing.{Writing}
 use Rattle.writer.specs.declared.Writing.the-variants.{Written, Refused}
@@ -16,7 +16,7 @@ roomRow s room = row (ltb room (lengthFor (s .states) (s .commands))) 9 (lengthF
 
 -- rows 4 to 9
 unfoldable pub writingRows : Sheet → ℕ → List Row
-writingRows s room = sheetRows (unevenBy (Given (length (s .sets))) (s .commands * s .states)) s ++ (roomRow s room ∷ [])
+writingRows s room = sheetRows (Given (length (s .sets))) s ++ (roomRow s room ∷ [])
 
 -- the answer of writing by some rows, and the output after it, of the output before
 abbrev pub writingBy : List Row → Sheet → Writing
