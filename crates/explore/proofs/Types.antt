@@ -19,8 +19,8 @@ abbrev pub next_type : Value
 next_type = struct_of Next.the_type NextL.the_laws NextL.the_copy NextL.the_plain
 
 module _ {w : Site} where
-  abbrev pub commands_of : SeesAt w (whole Head.the_row) (ty_int w64) 8 (λ d. vint w64 d.commands)
-  commands_of = field_of Head.the_type HeadL.the_laws 1 (ty_int w64) 8 refl
+  abbrev pub commands_of_at : SeesAt w (whole Head.the_row) (ty_int w64) 8 (λ d. vint w64 d.commands)
+  commands_of_at = field_of Head.the_type HeadL.the_laws 1 (ty_int w64) 8 refl
 
   abbrev pub kind_of : SeesAt w (whole Turn.the_row) (ty_int w8) 0 (λ d. vint w8 d.kind)
   kind_of = field_of Turn.the_type TurnL.the_laws 0 (ty_int w8) 0 refl

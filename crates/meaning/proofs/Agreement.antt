@@ -57,10 +57,10 @@ module _ (D : Domain) (ok : WellFormed D) where
   -- up to the end of a walk that ends, the last set has exactly the states that the runs reach
   pub agree : {x y : ℕ} {p : List ℕ} → Within D x → Gives (step D) x p y → Agrees x p y
   agree {x} {p = []} w e = subst (λ (v : ℕ). Agrees x [] v) (nil-gives (step D) e) (agrees_nil w)
-  agree {p = a ∷ p} w e =
+  agree {x = x} {y = y} {p = a ∷ p} w e =
       let r = cons-gives (step D) e in
       let i = step_some D ok w r.1 in
-      agrees_cons w i (agree i.within r.2)
+      agrees_cons w i (agree {x = r.0} {y = y} {p = p} i.within r.2)
 
   -- a plan with a run that gets stuck is not applicable
   pub stuck_not_applicable : {s : ℕ} {p : List ℕ} → Stuck D s p → ¬ Applicable D p s

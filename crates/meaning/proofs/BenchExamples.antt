@@ -25,8 +25,8 @@ below : ℕ → List ℕ → Bool
 below m [] = true
 below m (y ∷ l) = ltb y m && below m l
 
-well_formed : Bench → Bool
-well_formed t = below (2 ^ t.states) t.sets && (ltb t.initial (2 ^ t.states) && not (eqb t.initial 0))
+is_well_formed : Bench → Bool
+is_well_formed t = below (2 ^ t.states) t.sets && (ltb t.initial (2 ^ t.states) && not (eqb t.initial 0))
 
 both : (a b : Bool) → a && b ≡ true → (a ≡ true) × (b ≡ true)
 both true b e = (refl, e)
@@ -38,9 +38,9 @@ below_get_or m h [] k e = h
 below_get_or m h (y ∷ l) zero e = ltb→lt y m (subst T (sym (both (ltb y m) (below m l) e).0) tt)
 below_get_or m h (y ∷ l) (suc k) e = below_get_or m h l k (both (ltb y m) (below m l) e).1
 
-module _ (t : Bench) (e : well_formed t ≡ true) where
+module _ (t : Bench) (e : is_well_formed t ≡ true) where
   parts : (below (2 ^ t.states) t.sets ≡ true) × (ltb t.initial (2 ^ t.states) ≡ true) × (not (eqb t.initial 0) ≡ true)
-  unfolding well_formed
+  unfolding is_well_formed
   parts =
       let p = both _ _ e in
       let q = both _ _ p.1 in
@@ -67,7 +67,7 @@ computed t (bench.search c b r n) =
     bench.search c b (answer l t.goal c b) (nodes l (answer l t.goal c b).count)
 computed t (bench.judge p j) = bench.judge p (judge (domain_of t) t.initial t.goal p)
 
-computed_right : (t : Bench) → well_formed t ≡ true → (a : Asked) → RightFor (domain_of t) t.initial t.goal (computed t a)
+computed_right : (t : Bench) → is_well_formed t ≡ true → (a : Asked) → RightFor (domain_of t) t.initial t.goal (computed t a)
 unfolding computed
 computed_right t e (bench.search c b r n) = search_exists (domain_of t) (well_formed t e) t.initial (a_start t e) t.goal c b
 computed_right t e (bench.judge p j) = judge_meets (domain_of t) t.initial t.goal p
@@ -76,8 +76,8 @@ replies : map (λ (e : Example). computed e.sheet e.asked) examples ≡ map (λ 
 unfolding computed judge first_missing walk step sendable image answer first_inside listing expanded tried add has_set nodes node_of place_of same_seq by_last ones ones_in
 replies = refl
 
-sheets : map (λ (e : Example). well_formed e.sheet) examples ≡ map (λ (e : Example). true) examples
-unfolding well_formed below
+sheets : map (λ (e : Example). is_well_formed e.sheet) examples ≡ map (λ (e : Example). true) examples
+unfolding is_well_formed below
 sheets = refl
 
 -- ---- the statement
@@ -85,5 +85,5 @@ sheets = refl
 pub examples_right : AllRight
 examples_right k e u =
     let same : computed e.sheet e.asked ≡ e.asked = map_same (λ (x : Example). computed x.sheet x.asked) (λ (x : Example). x.asked) replies u in
-    let fits : well_formed e.sheet ≡ true = map_same (λ (x : Example). well_formed x.sheet) (λ (x : Example). true) sheets u in
+    let fits : is_well_formed e.sheet ≡ true = map_same (λ (x : Example). is_well_formed x.sheet) (λ (x : Example). true) sheets u in
     subst (RightFor (domain_of e.sheet) e.sheet.initial e.sheet.goal) same (computed_right e.sheet fits e.asked)

@@ -136,9 +136,9 @@ module _ (next : ℕ → ℕ → Option ℕ) (init n : ℕ)
 -- every set that a plan gives is a set of states that exist, and is not empty
 pub gives-start : (D : Domain) → WellFormed D → {x y : ℕ} {p : List ℕ} → Start D x → Gives (step D) x p y → Start D y
 gives-start D ok {p = []} st g = subst (Start D) (nil-gives (step D) g) st
-gives-start D ok {p = a ∷ p} st g =
+gives-start D ok {x = x} {y = y} {p = a ∷ p} st g =
     let r = cons-gives (step D) g in
-    gives-start D ok (image_some D ok st (step_some D ok st.within r.1)) r.2
+    gives-start D ok {x = r.0} {y = y} {p = p} (image_some D ok st (step_some D ok st.within r.1)) r.2
 
 module _ (D : Domain) (ok : WellFormed D) (init : ℕ) (st : Start D init) where
   pub below : (p : List ℕ) (x b y : ℕ) → Gives (step D) init p x → step D x b ≡ some y → b < D.commands

@@ -190,9 +190,9 @@ gives-commands D ok st [] g j b u = absurd (none-ne-some b u.held)
 gives-commands D ok st (a ∷ p) g zero b u =
     let i = step_some D ok st.within (cons-gives (step D) g).1 in
     subst (λ (c : ℕ). c < D.commands) (head_at u) (command-lt D ok st i)
-gives-commands D ok st (a ∷ p) g (suc j) b u =
+gives-commands D ok {x = x} {y = y} st (a ∷ p) g (suc j) b u =
     let r = cons-gives (step D) g in
-    gives-commands D ok (image_some D ok st (step_some D ok st.within r.1)) p r.2 j b (tail_at u)
+    gives-commands D ok {x = r.0} {y = y} (image_some D ok st (step_some D ok st.within r.1)) p r.2 j b (tail_at u)
 
 -- the judge says good exactly when the plan is good
 pub judged-good : (D : Domain) → WellFormed D → {x g : ℕ} {p : List ℕ} {j : Judged} → Start D x → Judges D x g p j → (j.verdict ≡ good) ↔ Good D x g p

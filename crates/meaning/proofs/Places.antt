@@ -28,7 +28,7 @@ module _ {A : Type 0} where
   pub at_lt : {l : List A} {k : ℕ} {e : A} → At l k e → k < length l
   at_lt {l = []} {e = e} h = absurd (none-ne-some e h.held)
   at_lt {l = f ∷ l} {k = zero} h = suc-le-suc zero-le
-  at_lt {l = f ∷ l} {k = suc k} h = suc-le-suc (at_lt (tail_at h))
+  at_lt {l = f ∷ l} {k = suc k} h = suc-le-suc (at_lt {l = l} {k = k} (tail_at h))
 
   pub lt_at : (l : List A) (k : ℕ) → k < length l → (e : A) × At l k e
   lt_at [] k h = absurd (not-suc-le-zero h)
@@ -41,7 +41,7 @@ module _ {A : Type 0} where
   pub at-append : {l : List A} {k : ℕ} {e : A} (r : List A) → At l k e → At (l ++ r) k e
   at-append {l = []} {e = e} r h = absurd (none-ne-some e h.held)
   at-append {l = f ∷ l} {k = zero} r h = record { held = h.held }
-  at-append {l = f ∷ l} {k = suc k} r h = at_tail f (at-append r (tail_at h))
+  at-append {l = f ∷ l} {k = suc k} r h = at_tail f (at-append {l = l} {k = k} r (tail_at h))
 
   pub at_last : (l : List A) (e : A) → At (l ++ (e ∷ [])) (length l) e
   at_last [] e = at_head e []
@@ -57,13 +57,13 @@ module _ {A : Type 0} where
   at_take {e = e} zero h = absurd (none-ne-some e h.held)
   at_take {l = []} (suc c) h = h
   at_take {l = f ∷ l} {k = zero} (suc c) h = record { held = h.held }
-  at_take {l = f ∷ l} {k = suc k} (suc c) h = at_tail f (at_take c (tail_at h))
+  at_take {l = f ∷ l} {k = suc k} (suc c) h = at_tail f (at_take {l = l} {k = k} c (tail_at h))
 
   pub take_at : {l : List A} {k c : ℕ} {e : A} → k < c → At l k e → At (take c l) k e
   take_at {c = zero} b h = absurd (not-suc-le-zero b)
   take_at {l = []} {c = suc c} b h = h
   take_at {l = f ∷ l} {k = zero} {c = suc c} b h = record { held = h.held }
-  take_at {l = f ∷ l} {k = suc k} {c = suc c} b h = at_tail f (take_at (le_of_suc-le-suc b) (tail_at h))
+  take_at {l = f ∷ l} {k = suc k} {c = suc c} b h = at_tail f (take_at {l = l} {k = k} {c = c} (le_of_suc-le-suc b) (tail_at h))
 
   pub take-lt : (l : List A) {k : ℕ} {e : A} (c : ℕ) → At (take c l) k e → k < c
   take-lt l {e = e} zero h = absurd (none-ne-some e h.held)

@@ -15,7 +15,7 @@ use lib.Seq.{take_all}
 use borrow.Author.Tests.{le-leb, lt-leb}
 use Rattle.meaning.specs.Sets.{◌⊆◌}
 use Rattle.meaning.specs.Listing.{Entry, At}
-use Rattle.meaning.specs.Answers.{Searched, found, too_long, none_of, no_room, FirstInside, NoneInside, Answers}
+use Rattle.meaning.specs.Answers.{Searched, found, long_plan, none_of, out_of_room, FirstInside, NoneInside, Answers}
 use Rattle.meaning.specs.Computed.{is_inside, first_inside, planned, answer}
 use Rattle.meaning.proofs.Tests.{inside_test, outside_test, inside_dec}
 use Rattle.meaning.proofs.OrderLaws.{compare3}
@@ -95,9 +95,9 @@ module _ (g : ℕ) where
     -- an answer with the case that it is given in
     pub data Answered (r : Searched) : Type 0 where
       plan : {k : ℕ} {e : Entry} → FirstInside g l k e → k < c → length e.seq ≤ b → r ≡ found k e.seq → Answered r
-      too_long : {k : ℕ} {e : Entry} → FirstInside g l k e → k < c → b < length e.seq → r ≡ too_long k e.seq → Answered r
+      too_long : {k : ℕ} {e : Entry} → FirstInside g l k e → k < c → b < length e.seq → r ≡ long_plan k e.seq → Answered r
       no_plan : NoneInside g l → length l ≤ c → r ≡ none_of (length l) → Answered r
-      no_room : ((k : ℕ) (e : Entry) → FirstInside g l k e → c ≤ k) → c < length l → r ≡ no_room c → Answered r
+      no_room : ((k : ℕ) (e : Entry) → FirstInside g l k e → c ≤ k) → c < length l → r ≡ out_of_room c → Answered r
 
     -- every answer that the statement permits has one
     pub answered : {r : Searched} → Answers l g c b r → Answered r
@@ -149,17 +149,17 @@ module _ (g : ℕ) where
     pub answer_meets : Answers l g c b (answer l g c b)
     unfolding answer
     answer_meets = record {
-      plan = λ {k} {e} a h q. placed a h ∙ ap (λ (t : Bool). cond t (found k e.seq) (too_long k e.seq)) (le-leb (length e.seq) b q);
+      plan = λ {k} {e} a h q. placed a h ∙ ap (λ (t : Bool). cond t (found k e.seq) (long_plan k e.seq)) (le-leb (length e.seq) b q);
       too_long = λ {k} {e} a h q. placed a h
-          ∙ ap (λ (t : Bool). cond t (found k e.seq) (too_long k e.seq)) (lt-leb (length e.seq) b q);
+          ∙ ap (λ (t : Bool). cond t (found k e.seq) (long_plan k e.seq)) (lt-leb (length e.seq) b q);
       no_plan = λ n h. scan_none (take c l) 0 (planned b) rest (λ k e u. n k e (at_take c u))
-          ∙ ap (λ (t : Bool). cond t (none_of (length l)) (no_room c)) (le-leb (length l) c h);
+          ∙ ap (λ (t : Bool). cond t (none_of (length l)) (out_of_room c)) (le-leb (length l) c h);
       otherwise = λ p q. scan_none (take c l) 0 (planned b) rest (none-take l c p)
-          ∙ ap (λ (t : Bool). cond t (none_of (length l)) (no_room c)) (lt-leb (length l) c (lt_of_not-le (more p q)));
+          ∙ ap (λ (t : Bool). cond t (none_of (length l)) (out_of_room c)) (lt-leb (length l) c (lt_of_not-le (more p q)));
     }
       where
         rest : Searched
-        rest = cond (leb (length l) c) (none_of (length l)) (no_room c)
+        rest = cond (leb (length l) c) (none_of (length l)) (out_of_room c)
 
         placed : {k : ℕ} {e : Entry} → FirstInside g l k e → k < c → answer l g c b ≡ planned b k e
         placed {k} {e} a h = scan_first (take c l) 0 k (planned b) rest (first-take h a) ∙ ap (λ (n : ℕ). planned b n e) (zero-add k)
@@ -171,21 +171,21 @@ module _ (g : ℕ) where
     pub answers-plan : {k : ℕ} {e : Entry} → FirstInside g l k e → k < c → length e.seq ≤ b → Answers l g c b (found k e.seq)
     answers-plan a h q = subst (Answers l g c b) (answer_meets.plan a h q) answer_meets
 
-    pub answers_too_long : {k : ℕ} {e : Entry} → FirstInside g l k e → k < c → b < length e.seq → Answers l g c b (too_long k e.seq)
+    pub answers_too_long : {k : ℕ} {e : Entry} → FirstInside g l k e → k < c → b < length e.seq → Answers l g c b (long_plan k e.seq)
     answers_too_long a h q = subst (Answers l g c b) (answer_meets.too_long a h q) answer_meets
 
     pub answers_no_plan : NoneInside g l → length l ≤ c → Answers l g c b (none_of (length l))
     answers_no_plan n h = subst (Answers l g c b) (answer_meets.no_plan n h) answer_meets
 
     -- no set of the first c is inside the goal, and there is one more
-    pub answers_no_room : ((k : ℕ) (e : Entry) → FirstInside g l k e → c ≤ k) → c < length l → Answers l g c b (no_room c)
+    pub answers_no_room : ((k : ℕ) (e : Entry) → FirstInside g l k e → c ≤ k) → c < length l → Answers l g c b (out_of_room c)
     answers_no_room p h = subst (Answers l g c b) (answer_meets.otherwise p (λ n. h)) answer_meets
 
   -- a larger room changes no answer but 13
-  pub larger_room : {l : List Entry} {c d b : ℕ} {r : Searched} → c ≤ d → Answers l g c b r → (r ≡ no_room c) ⊎ Answers l g d b r
+  pub larger_room : {l : List Entry} {c d b : ℕ} {r : Searched} → c ≤ d → Answers l g c b r → (r ≡ out_of_room c) ⊎ Answers l g d b r
   larger_room {l} {c} {d} {b} {r} h u = go (answered l c b u)
     where
-      go : Answered l c b r → (r ≡ no_room c) ⊎ Answers l g d b r
+      go : Answered l c b r → (r ≡ out_of_room c) ⊎ Answers l g d b r
       go (plan a k q e) = inr (subst (Answers l g d b) (sym e) (answers-plan l d b a (lt_of_lt_of_le k h) q))
       go (too_long a k q e) = inr (subst (Answers l g d b) (sym e) (answers_too_long l d b a (lt_of_lt_of_le k h) q))
       go (no_plan n k e) = inr (subst (Answers l g d b) (sym e) (answers_no_plan l d b n (le_trans k h)))

@@ -32,9 +32,9 @@ pub record Sure (D : Domain) : Type 0 where
 
 pub sure_size : (D : Domain) → WellFormed D → Sure D → {x y : ℕ} {p : List ℕ} → Within D x → Gives (step D) x p y → size y ≤ size x
 sure_size D ok sure {p = []} w g = le_of_eq (ap size (sym (nil-gives (step D) g)))
-sure_size D ok sure {x} {p = a ∷ p} w g =
+sure_size D ok sure {x = x} {y = y} {p = a ∷ p} w g =
     let r = cons-gives (step D) g in
     let i = step_some D ok w r.1 in
     let small : size (image (D.follow a) x D.states) ≤ size x =
     le_trans (image-size (D.follow a) x D.states (sure.one a)) (le_of_eq (sym (size-count D.states x w))) in
-    le_trans (sure_size D ok sure i.within r.2) (le_trans (le_of_eq (ap size i.value)) small)
+    le_trans (sure_size D ok sure {x = r.0} {y = y} {p = p} i.within r.2) (le_trans (le_of_eq (ap size i.value)) small)

@@ -116,19 +116,21 @@ module _ (next : ℕ → ℕ → Option ℕ) where
   at-blocked {x} {y} {b} zero (a ∷ p) u g e =
       let q : x ≡ y = nil-gives g in
       walk_none p (ap (λ (c : ℕ). next x c) (head_at u) ∙ ap (λ (v : ℕ). next v b) q ∙ e) ∙ ap (blocked zero) q
-  at-blocked (suc k) (a ∷ p) u g e = let r = cons-gives g in walk_some p r.1 ∙ ap later (at-blocked k p (tail_at u) r.2 e)
+  at-blocked {x = x} {y = y} {b = b} (suc k) (a ∷ p) u g e = let r = cons-gives g in walk_some p r.1 ∙ ap later (at-blocked {x = r.0} {y = y} {b = b} k p (tail_at u) r.2 e)
 
   -- ---- two plans in a row
 
   pub gives-append : {x z y : ℕ} {p q : List ℕ} → Gives next x p z → Gives next z q y → Gives next x (p ++ q) y
   gives-append {y = y} {p = []} {q} e f = subst (λ (v : ℕ). Gives next v q y) (sym (nil-gives e)) f
-  gives-append {p = a ∷ p} e f = let r = cons-gives e in gives_cons r.1 (gives-append r.2 f)
+  gives-append {x = x} {z = z} {y = y} {p = a ∷ p} {q = q} e f =
+      let r = cons-gives e in
+      gives_cons r.1 (gives-append {x = r.0} {z = z} {y = y} {p = p} {q = q} r.2 f)
 
   pub append-gives : {x y : ℕ} (p q : List ℕ) → Gives next x (p ++ q) y → (z : ℕ) × Gives next x p z × Gives next z q y
   append-gives {x} [] q g = (x, gives_nil x, g)
-  append-gives (a ∷ p) q g =
+  append-gives {x = x} {y = y} (a ∷ p) q g =
       let r = cons-gives g in
-      let s = append-gives p q r.2 in
+      let s = append-gives {x = r.0} {y = y} p q r.2 in
       (s.0, gives_cons r.1 s.1, s.2)
 
   -- each start of a plan that gives a set gives a set

@@ -70,14 +70,14 @@ abbrev pub found : ℕ → List ℕ → Searched
 found k p = record { verdict = plan; place = 0; count = suc k; plan_length = length p; written = p }
 
 -- as before, but the plan buffer is shorter than the plan
-abbrev pub too_long : ℕ → List ℕ → Searched
-too_long k p = record { verdict = refused 14; place = length p; count = suc k; plan_length = length p; written = [] }
+abbrev pub long_plan : ℕ → List ℕ → Searched
+long_plan k p = record { verdict = refused 14; place = length p; count = suc k; plan_length = length p; written = [] }
 
 abbrev pub none_of : ℕ → Searched
 none_of n = record { verdict = no_plan; place = 0; count = n; plan_length = 0; written = [] }
 
-abbrev pub no_room : ℕ → Searched
-no_room c = record { verdict = refused 13; place = 0; count = c; plan_length = 0; written = [] }
+abbrev pub out_of_room : ℕ → Searched
+out_of_room c = record { verdict = refused 13; place = 0; count = c; plan_length = 0; written = [] }
 
 -- e, at place k of the list, is the first whose set lies inside the goal g
 pub record FirstInside (g : ℕ) (l : List Entry) (k : ℕ) (e : Entry) : Type 0 where
@@ -91,9 +91,9 @@ NoneInside g l = (k : ℕ) (e : Entry) → At l k e → ¬ (e.set ⊆ g)
 -- the answer where l is the listing, there is room for c sets, and the plan buffer holds b commands
 pub record Answers (l : List Entry) (g c b : ℕ) (r : Searched) : Type 0 where
   pub plan : {k : ℕ} {e : Entry} → FirstInside g l k e → k < c → length e.seq ≤ b → r ≡ found k e.seq
-  pub too_long : {k : ℕ} {e : Entry} → FirstInside g l k e → k < c → b < length e.seq → r ≡ too_long k e.seq
+  pub too_long : {k : ℕ} {e : Entry} → FirstInside g l k e → k < c → b < length e.seq → r ≡ long_plan k e.seq
   pub no_plan : NoneInside g l → length l ≤ c → r ≡ none_of (length l)
-  pub otherwise : ((k : ℕ) (e : Entry) → FirstInside g l k e → c ≤ k) → (NoneInside g l → c < length l) → r ≡ no_room c
+  pub otherwise : ((k : ℕ) (e : Entry) → FirstInside g l k e → c ≤ k) → (NoneInside g l → c < length l) → r ≡ out_of_room c
 
 -- what a search of the domain from the initial set x to the goal g answers, and the records that the first places of its store then hold
 pub record Searches (D : Domain) (x g c b : ℕ) (r : Searched) (nodes : List Node) : Type 0 where

@@ -7,7 +7,7 @@ use Rattle.meaning.specs.Sets.{empty}
 use Rattle.meaning.specs.Domain.{Domain}
 use Rattle.meaning.specs.Walk.{Walked, ended, blocked, walk, step}
 use Rattle.meaning.specs.Listing.{Entry, Node}
-use Rattle.meaning.specs.Answers.{good, refused, Judged, judged, Searched, found, too_long, none_of, no_room}
+use Rattle.meaning.specs.Answers.{good, refused, Judged, judged, Searched, found, long_plan, none_of, out_of_room}
 
 -- every state of x is in g, by a test
 abbrev pub is_inside : ℕ → ℕ → Bool
@@ -41,11 +41,11 @@ first_inside g k (e ∷ l) w otherwise = cond (is_inside e.set g) (w k e) (first
 
 -- a plan, or refusal 14, for the set at place k
 abbrev pub planned : ℕ → ℕ → Entry → Searched
-planned b k e = cond (leb (length e.seq) b) (found k e.seq) (too_long k e.seq)
+planned b k e = cond (leb (length e.seq) b) (found k e.seq) (long_plan k e.seq)
 
 -- the answer where l is the listing
 unfoldable pub answer : List Entry → ℕ → ℕ → ℕ → Searched
-answer l g c b = first_inside g 0 (take c l) (planned b) (cond (leb (length l) c) (none_of (length l)) (no_room c))
+answer l g c b = first_inside g 0 (take c l) (planned b) (cond (leb (length l) c) (none_of (length l)) (out_of_room c))
 
 -- ---- the store
 

@@ -105,7 +105,7 @@ either true s t c d = c
 either false s t c d = d
 
 planned_small : (b k : ℕ) (e : Entry) → Small (computed.planned b k e).verdict
-planned_small b k e = either (leb (length e.seq) b) (answers.found k e.seq) (answers.too_long k e.seq) small_plan (small_refused 14 (omega arith) (omega arith))
+planned_small b k e = either (leb (length e.seq) b) (answers.found k e.seq) (answers.long_plan k e.seq) small_plan (small_refused 14 (omega arith) (omega arith))
 
 first_small : (g k b : ℕ) (l : List Entry) (o : answers.Searched) → Small o.verdict → Small (computed.first_inside g k l (computed.planned b) o).verdict
 unfolding computed.first_inside
@@ -116,8 +116,8 @@ first_small g k b (e ∷ l) o s =
 search_small : (l : List Entry) (g c b : ℕ) → Small (computed.answer l g c b).verdict
 unfolding computed.answer
 search_small l g c b =
-    first_small g 0 b (take c l) (cond (leb (length l) c) (answers.none_of (length l)) (answers.no_room c))
-    (either (leb (length l) c) (answers.none_of (length l)) (answers.no_room c) small_no_plan (small_refused 13 (omega arith) (omega arith)))
+    first_small g 0 b (take c l) (cond (leb (length l) c) (answers.none_of (length l)) (answers.out_of_room c))
+    (either (leb (length l) c) (answers.none_of (length l)) (answers.out_of_room c) small_no_plan (small_refused 13 (omega arith) (omega arith)))
 
 -- ---- the arrays
 

@@ -19,7 +19,7 @@ use Rattle.sheet.specs.declared.Check.{Check}
 use Rattle.sheet.specs.declared.Check.TheVariants.{Passed, Failed}
 use Rattle.sheet.specs.declared.Reading.TheVariants.{Accepted}
 use Rattle.sheet.proofs.ValidLaws.{valid}
-use Rattle.sheet.proofs.RoundTrip.{sheet_of}
+use Rattle.sheet.proofs.RoundTrip.{sheet_of_encode}
 use Rattle.sheet.proofs.Accepted.{encoded_accepted}
 
 -- the sheet of a row
@@ -62,7 +62,7 @@ right_of s a v r = record {
   is_valid = v;
   accepted = encoded_accepted s v;
   by-sheet = r;
-  by_bytes = subst (λ (D : Domain). RightFor D (set_of (head_of s).initial) (set_of (head_of s).goal) a) (sym (ap domain (sheet_of s v)))
+  by_bytes = subst (λ (D : Domain). RightFor D (set_of (head_of s).initial) (set_of (head_of s).goal) a) (sym (ap domain (sheet_of_encode s v)))
       (subst (λ (x : ℕ). RightFor (domain s) x (set_of (head_of s).goal) a) (sym (set_for_lem s.initial))
       (subst (λ (g : ℕ). RightFor (domain s) s.initial g a) (sym (set_for_lem s.goal)) r));
 }

@@ -12,7 +12,7 @@ use lib.Seq.{length-take-le}
 use Rattle.meaning.specs.Domain.{Domain}
 use Rattle.meaning.specs.Walk as walk
 use Rattle.meaning.specs.Listing.{Entry, At, Holds, Link, initial, later, Stores}
-use Rattle.meaning.specs.Answers.{Searched, Answers, found, too_long, none_of, no_room, room}
+use Rattle.meaning.specs.Answers.{Searched, Answers, found, long_plan, none_of, out_of_room, room}
 use Rattle.meaning.specs.Enumeration.{listing}
 use Rattle.meaning.proofs.Places.{at_get_or, at_fun, at_take, take-lt, map_at}
 use Rattle.meaning.proofs.StoreLaws.{parent-lt, then_not_nil}
@@ -124,7 +124,7 @@ module _ {D : Domain} {x g : ℕ} {store store' : List Node} {t : Turn} {plan pl
           fits (no h) =
               let h' = lt_of_not-le h in
               let w = f.too_long z (plan_back v.ended i) h' in
-              with_says (too_long i.place i.entry.seq) last (answers_too_long g (listing D x) (room (length store)) (length plan) i.first below h')
+              with_says (long_plan i.place i.entry.seq) last (answers_too_long g (listing D x) (room (length store)) (length plan) i.first below h')
               (ap (λ (b : Answer). searched_of b []) w.0 ∙ ap (λ (n : ℕ). searched_of (answer (Refused 14) (length i.entry.seq) n (length i.entry.seq)) []) (sym last)) w.1
 
       no_plan : t.kind ≡ ends_no_plan → SearchDone D x g store store' plan plan' a
@@ -138,7 +138,7 @@ module _ {D : Domain} {x g : ℕ} {store store' : List Node} {t : Turn} {plan pl
       no_room z =
           let i = v.ended.no_room z in
           let w = f.no_room z in
-          with_says (no_room (room (length store))) (sym i.is_full) (answers_no_room g (listing D x) (room (length store)) (length plan) i.none_inside i.more)
+          with_says (out_of_room (room (length store))) (sym i.is_full) (answers_no_room g (listing D x) (room (length store)) (length plan) i.none_inside i.more)
           (ap (λ (b : Answer). searched_of b []) w.0 ∙ ap (λ (n : ℕ). searched_of (answer (Refused 13) 0 n 0) []) i.is_full) w.1
 
       by_kind : (k : ℕ) → t.kind ≡ k → SearchDone D x g store store' plan plan' a

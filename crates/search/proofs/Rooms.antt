@@ -11,7 +11,7 @@ use Rattle.meaning.specs.Domain.{Domain}
 use Rattle.meaning.specs.Walk.{step}
 use Rattle.meaning.specs.Listing as listing
 use Rattle.meaning.specs.Listing.{Entry, Stores}
-use Rattle.meaning.specs.Answers.{Searched, Answers, FirstInside, no_room, room}
+use Rattle.meaning.specs.Answers.{Searched, Answers, FirstInside, out_of_room, room}
 use Rattle.meaning.proofs.Places.{at_take}
 use Rattle.meaning.proofs.ListingLaws.{listing_unique}
 use Rattle.meaning.proofs.StoreLaws.{stores_unique}
@@ -38,7 +38,7 @@ counts_grow g {l} {c} {d} {b} {r} {s} h u v = go (answered g l c b u)
     equal : Answers l g d b r → r.count ≤ s.count
     equal w = omega (arith, ap (λ (o : Searched). o.count) (answers_unique g l d b w v))
 
-    full : ((k : ℕ) (e : Entry) → FirstInside g l k e → c ≤ k) → c < length l → r ≡ no_room c → r.count ≤ s.count
+    full : ((k : ℕ) (e : Entry) → FirstInside g l k e → c ≤ k) → c < length l → r ≡ out_of_room c → r.count ≤ s.count
     full p m e = within (answered g l d b v)
       where
         within : Answered g l d b s → r.count ≤ s.count

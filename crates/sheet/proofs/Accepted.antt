@@ -10,7 +10,7 @@ use Rattle.sheet.specs.declared.Head.{Head}
 use Rattle.sheet.specs.declared.Reading.{Reading}
 use Rattle.sheet.specs.declared.Reading.TheVariants.{Accepted}
 use Rattle.sheet.proofs.Accepts.{accepts_reading, reading_accepts}
-use Rattle.sheet.proofs.RoundTrip.{sheet_of, accepts_encode, encode_in}
+use Rattle.sheet.proofs.RoundTrip.{sheet_of_encode, accepts_encode, encode_in}
 
 -- l is the bytes of a valid sheet with the head h
 pub record IsSheet (l : List ℕ) (h : Head) : Type 0 where
@@ -21,7 +21,7 @@ pub record IsSheet (l : List ℕ) (h : Head) : Type 0 where
 
 -- a valid sheet's bytes are accepted
 pub encoded_accepted : (s : Sheet) → Valid s → reading (encode s) ≡ Accepted (head_of s)
-encoded_accepted s v = accepts_reading (encode s) (accepts_encode s v) ∙ ap (λ (t : Sheet). Accepted (head_of t)) (sheet_of s v)
+encoded_accepted s v = accepts_reading (encode s) (accepts_encode s v) ∙ ap (λ (t : Sheet). Accepted (head_of t)) (sheet_of_encode s v)
 
 -- what the reader answers of lent bytes accepts them exactly where they are a valid sheet's
 pub accepted_iff : (l : List ℕ) {r : Reading} → ReadAs l r → (h : Head) → (r ≡ Accepted h) ↔ IsSheet l h
@@ -37,4 +37,4 @@ accepted_iff l {r} u h = (there, back)
 
 -- only one valid sheet has given bytes
 pub sheet_unique : (s t : Sheet) → Valid s → Valid t → encode s ≡ encode t → s ≡ t
-sheet_unique s t v w e = sym (sheet_of s v) ∙ ap sheet_in e ∙ sheet_of t w
+sheet_unique s t v w e = sym (sheet_of_encode s v) ∙ ap sheet_in e ∙ sheet_of_encode t w

@@ -41,11 +41,11 @@ module _ (s : Sheet) (v : Valid s) where
   stated_of : stated bytes ≡ stated_for s.states s.commands
   stated_of = field_at (take 1 head) (field 4 (stated_for s.states s.commands)) (take 4 (drop 2 head) ++ rows) (omega (arith, product v.commands_fit v.states_fit))
 
-  states_of : states_in bytes ≡ s.states
-  states_of = field_at (take 2 head) (field 1 s.states) (take 3 (drop 3 head) ++ rows) (omega (arith, v.states_fit))
+  states_of_at : states_in bytes ≡ s.states
+  states_of_at = field_at (take 2 head) (field 1 s.states) (take 3 (drop 3 head) ++ rows) (omega (arith, v.states_fit))
 
-  commands_of : commands_in bytes ≡ s.commands
-  commands_of = field_at (take 3 head) (field 1 s.commands) (take 2 (drop 4 head) ++ rows) (omega (arith, v.commands_fit))
+  commands_of_at : commands_in bytes ≡ s.commands
+  commands_of_at = field_at (take 3 head) (field 1 s.commands) (take 2 (drop 4 head) ++ rows) (omega (arith, v.commands_fit))
 
   initial_of : number_at 7 set_width bytes ≡ s.initial
   initial_of = field_at (take 4 head) (field set_width s.initial) (take 1 (drop 5 head) ++ rows) (fits v.initial_within)
@@ -53,8 +53,8 @@ module _ (s : Sheet) (v : Valid s) where
   goal_of : number_at 15 set_width bytes ≡ s.goal
   goal_of = field_at (take 5 head) (field set_width s.goal) rows (fits v.goal-within)
 
-  set_of : (i : ℕ) → i < length s.sets → set_in bytes i ≡ get_or s.sets i 0
-  set_of i h =
+  set_of_at : (i : ℕ) → i < length s.sets → set_in bytes i ≡ get_or s.sets i 0
+  set_of_at i h =
       ap₂ (λ (at : ℕ) (fs : List Field). number_at at set_width (laid (head ++ fs))) place split
       ∙ field_at (head ++ map (field set_width) (take i s.sets)) (field set_width (get_or s.sets i 0)) (map (field set_width) (drop (suc i) s.sets)) (fits (v.sets-within i))
     where
@@ -65,7 +65,7 @@ module _ (s : Sheet) (v : Valid s) where
       split = ap (λ (xs : List ℕ). map (field set_width) xs) (split_at s.sets i 0 h) ∙ map-append (take i s.sets) (get_or s.sets i 0 ∷ drop (suc i) s.sets)
 
   sets_of : map (set_in bytes) (from 0 (s.commands * s.states)) ≡ s.sets
-  sets_of = ext_get_or 0 (map (set_in bytes) (from 0 (s.commands * s.states))) s.sets (long ∙ sym v.complete) (λ i h. get_or_from_0 (set_in bytes) (s.commands * s.states) i (below i h) ∙ set_of i (there i h))
+  sets_of = ext_get_or 0 (map (set_in bytes) (from 0 (s.commands * s.states))) s.sets (long ∙ sym v.complete) (λ i h. get_or_from_0 (set_in bytes) (s.commands * s.states) i (below i h) ∙ set_of_at i (there i h))
     where
       long : length (map (set_in bytes) (from 0 (s.commands * s.states))) ≡ s.commands * s.states
       long = length_from (set_in bytes) 0 (s.commands * s.states)
@@ -79,22 +79,22 @@ module _ (s : Sheet) (v : Valid s) where
   sheet_laid : sheet_in bytes ≡ s
   unfolding sheet_in
   sheet_laid = λ i. record {
-    states = states_of i;
-    commands = commands_of i;
+    states = states_of_at i;
+    commands = commands_of_at i;
     initial = initial_of i;
     goal = goal_of i;
-    sets = (ap₂ (λ (m n : ℕ). map (set_in bytes) (from 0 (m * n))) commands_of states_of ∙ sets_of) i;
+    sets = (ap₂ (λ (m n : ℕ). map (set_in bytes) (from 0 (m * n))) commands_of_at states_of_at ∙ sets_of) i;
   }
 
-  pub sheet_of : sheet_in (encode s) ≡ s
-  sheet_of = ap sheet_in (sym (laid_sheet s)) ∙ sheet_laid
+  pub sheet_of_encode : sheet_in (encode s) ≡ s
+  sheet_of_encode = ap sheet_in (sym (laid_sheet s)) ∙ sheet_laid
 
   pub accepts_encode : Accepts (encode s)
   accepts_encode = record {
     version_is = ap (λ (l : List ℕ). number_at 0 1 l) (sym (laid_sheet s)) ∙ version_of;
-    stated_is = ap stated (sym (laid_sheet s)) ∙ stated_of ∙ ap (λ (t : Sheet). stated_for t.states t.commands) (sym sheet_of);
-    long = length-encode s v.complete ∙ ap (λ (t : Sheet). length_for t.states t.commands) (sym sheet_of);
-    is_valid = subst (λ (t : Sheet). Valid t) (sym sheet_of) v;
+    stated_is = ap stated (sym (laid_sheet s)) ∙ stated_of ∙ ap (λ (t : Sheet). stated_for t.states t.commands) (sym sheet_of_encode);
+    long = length-encode s v.complete ∙ ap (λ (t : Sheet). length_for t.states t.commands) (sym sheet_of_encode);
+    is_valid = subst (λ (t : Sheet). Valid t) (sym sheet_of_encode) v;
   }
 
 -- ---- accepted bytes

@@ -15,8 +15,8 @@ abbrev pub node_wt : FromWTs the_type.parts the_laws
 node_wt = (set-wt, (u32_wt, (u8_wt, tt)))
 
 module _ {w : Site} where
-  abbrev pub set_of : SetIn w (whole the_row) 0 (λ d. d.set)
-  set_of = field_of the_type the_laws 0 set_ty 0 refl
+  abbrev pub set_of_at : SetIn w (whole the_row) 0 (λ d. d.set)
+  set_of_at = field_of the_type the_laws 0 set_ty 0 refl
 
   abbrev pub parent_of : SeesAt w (whole the_row) (ty_int w32) 8 (λ d. vint w32 d.parent)
   parent_of = field_of the_type the_laws 1 (ty_int w32) 8 refl

@@ -72,14 +72,14 @@ module _ (κ : Lft) where
 
 module _ {w : Site} where
   -- in a local whose type names the lifetime m
-  abbrev pub sheet_of : (m : Lifetime) (α : ℕ) → SeesAt w (held view α) (slice_ty (ptr byte m imm)) 0 (λ d. slice_v d.sheet)
-  sheet_of m α = held_field view α (λ κ. reads-field w w.W (T.the_type (record { mir = m; lft = κ })) (T'.the_laws (record { mir = m; lft = κ })) 0 (slice_ty (ptr byte m imm)) 0 refl)
+  abbrev pub sheet_of_encode : (m : Lifetime) (α : ℕ) → SeesAt w (held view α) (slice_ty (ptr byte m imm)) 0 (λ d. slice_v d.sheet)
+  sheet_of_encode m α = held_field view α (λ κ. reads-field w w.W (T.the_type (record { mir = m; lft = κ })) (T'.the_laws (record { mir = m; lft = κ })) 0 (slice_ty (ptr byte m imm)) 0 refl)
 
-  abbrev pub states_of : (α : ℕ) → SeesAt w (held view α) (ty_int w64) 16 (λ d. vint w64 d.states)
-  states_of α = held_field view α (λ κ. reads-field w w.W (D κ) (L κ) 1 (ty_int w64) 16 refl)
+  abbrev pub states_of_at : (α : ℕ) → SeesAt w (held view α) (ty_int w64) 16 (λ d. vint w64 d.states)
+  states_of_at α = held_field view α (λ κ. reads-field w w.W (D κ) (L κ) 1 (ty_int w64) 16 refl)
 
-  abbrev pub commands_of : (α : ℕ) → SeesAt w (held view α) (ty_int w64) 24 (λ d. vint w64 d.commands)
-  commands_of α = held_field view α (λ κ. reads-field w w.W (D κ) (L κ) 2 (ty_int w64) 24 refl)
+  abbrev pub commands_of_at : (α : ℕ) → SeesAt w (held view α) (ty_int w64) 24 (λ d. vint w64 d.commands)
+  commands_of_at α = held_field view α (λ κ. reads-field w w.W (D κ) (L κ) 2 (ty_int w64) 24 refl)
 
 -- what the sheet owns, of what a view owns; and what a view owns, of what its sheet owns
 module _ (w : Site) where

@@ -28,7 +28,7 @@ use Rattle.sheet.proofs.ValidLaws.{NoneHold, none_here, none-cons, none-nil, val
 use Rattle.sheet.proofs.Fields.{length-encode}
 use Rattle.writer.proofs.WriteLaws.{writing-by, written-by}
 use Rattle.sheet.proofs.Accepts.{reading_accepts}
-use Rattle.sheet.proofs.RoundTrip.{sheet_of, encode_in}
+use Rattle.sheet.proofs.RoundTrip.{sheet_of_encode, encode_in}
 use Rattle.sheet.proofs.Accepted.{encoded_accepted}
 
 -- ---- the rows of writing, in two parts
@@ -107,8 +107,8 @@ read_written s out k e =
     let same : take k (written s out) ≡ encode s = ap (λ (n : ℕ). take n (written s out)) (sym w.1) ∙ writes_start s out w.0 in
     record {
       accepted = ap reading same ∙ encoded_accepted s v;
-      same_sheet = ap sheet_in same ∙ sheet_of s v;
-      same_domain = ap domain (ap sheet_in same ∙ sheet_of s v);
+      same_sheet = ap sheet_in same ∙ sheet_of_encode s v;
+      same_domain = ap domain (ap sheet_in same ∙ sheet_of_encode s v);
     }
 
 -- ---- an accepted sheet, written again

@@ -8,7 +8,7 @@ use Rattle.store.specs.Nodes.{set_at}
 use Rattle.sets.specs.Words.{set_of}
 use Rattle.store.proofs.Types.{byte, node_type}
 use Rattle.explore.proofs.TurnLaws.{Expanding, expanding_start, expanding_asks, expanding_on, expanding_ended, expanded}
-use Rattle.explore.proofs.Types.{head_type, turn_type, commands_of, kind_of, count_of}
+use Rattle.explore.proofs.Types.{head_type, turn_type, commands_of_at, kind_of, count_of}
 use Rattle.explore.proofs.Jobs as jobs
 use Rattle.explore.proofs.Jobs.{expand as job}
 use Rattle.explore.proofs.try_at as try-fn
@@ -40,7 +40,7 @@ module _ (w : World) where
       (λ u v. Expanding (domain_by u.1.0 u.1.1.0.now) (set_at u.1.1.1.1.0.now 0) (set_of u.1.1.1.0) u.1.1.1.1.1.0 u.1.1.1.1.1.1.1.0 u.1.1.1.1.1.1.0 u.1.1.1.1.0.now v.0 v.1.0 v.1.1)
       (λ u v. u.1.0.commands - v.1.1) (
       -- while command < head.commands
-      does 11 s_bool (lt unsigned) (at 9 n64 refl) (part 1 (field 1 ∷ []) commands_of refl) fresh refl (λ u. refl) (λ u. tt) then
+      does 11 s_bool (lt unsigned) (at 9 n64 refl) (part 1 (field 1 ∷ []) commands_of_at refl) fresh refl (λ u. refl) (λ u. tt) then
       joined (Hd κs qs) (branches 11 flag refl (gone 11 (over s_bool) free skipped tt) (gone 11 (over s_bool) free left 1 tt)) (
       -- t = try_at(head, sheet, goal, &mut *store, room, count, i, command)
       begins 2 _ free lends node_type.R 4 12 1 2 (named 1) same fresh refl tt refl refl then

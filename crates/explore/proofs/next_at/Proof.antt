@@ -7,7 +7,7 @@ use Rattle.follow.proofs.sendable as sendable-fn
 use Rattle.follow.proofs.image as image-fn
 use Rattle.store.proofs.SetSteps.{set_arg, a_set, set_room, set-row}
 use Rattle.store.specs.declared.Node.{Node}
-use Rattle.store.proofs.Types.{byte, node_type, set_of}
+use Rattle.store.proofs.Types.{byte, node_type, set_of_at}
 use Rattle.store.proofs.Jobs as store-jobs
 use Rattle.store.proofs.node_at as at_fn
 use Rattle.store.proofs.place_of as place-fn
@@ -54,9 +54,9 @@ module _ (w : World) where
   abbrev walk : Walked job w this.Code.env this.Code.function
   walk κs qs bs =
       calls (node_at bs) (1 ∷ []) 7 (shr_arg node_type.R 0 tt 3 (a_lent node_type.R (named 1) 1) refl (num 5 n64 refl none)) fresh (tt, tt) refl then here (Has-n κs qs) $
-      calls (sendable bs) (0 ∷ []) 10 (val_arg head_type 1 [] (holds head_type) refl (shr_arg byte 0 tt 2 (a_lent byte (named 0) 0) refl (num 6 n64 refl (set_arg 7 (field 0 ∷ []) set_of refl none)))) fresh (tt, tt) refl then here (Has-b κs qs) $
+      calls (sendable bs) (0 ∷ []) 10 (val_arg head_type 1 [] (holds head_type) refl (shr_arg byte 0 tt 2 (a_lent byte (named 0) 0) refl (num 6 n64 refl (set_arg 7 (field 0 ∷ []) set_of_at refl none)))) fresh (tt, tt) refl then here (Has-b κs qs) $
       joined (Has-b κs qs) (branches 10 flag refl (
-      calls (image bs) (0 ∷ []) 8 (val_arg head_type 1 [] (holds head_type) refl (shr_arg byte 0 tt 2 (a_lent byte (named 0) 0) refl (num 6 n64 refl (set_arg 7 (field 0 ∷ []) set_of refl none)))) fresh (tt, tt) refl then here (Has-y κs qs) $
+      calls (image bs) (0 ∷ []) 8 (val_arg head_type 1 [] (holds head_type) refl (shr_arg byte 0 tt 2 (a_lent byte (named 0) 0) refl (num 6 n64 refl (set_arg 7 (field 0 ∷ []) set_of_at refl none)))) fresh (tt, tt) refl then here (Has-y κs qs) $
       calls (place_of bs) (1 ∷ []) 9 (shr_arg node_type.R 0 tt 3 (a_lent node_type.R (named 1) 1) refl (num 4 n64 refl (set_arg 8 [] a_set refl none))) fresh (tt, tt) refl then here (Has-k κs qs) $
       calls (looked-up bs) [] 0 (num 9 n64 refl (num 4 n64 refl (set_arg 8 [] a_set refl none))) fresh tt refl then
       gone 1 (value_room head_type) free gone 4 (over (s_int w64)) free gone 5 (over (s_int w64)) free gone 6 (over (s_int w64)) free

@@ -8,7 +8,7 @@ use Rattle.store.specs.Nodes.{set_at}
 use Rattle.store.specs.contracts.Node.{the_row}
 use Rattle.store.proofs.Jobs as jobs
 use Rattle.store.proofs.Jobs.{place_of as job}
-use Rattle.store.proofs.Types.{node_type, set_of}
+use Rattle.store.proofs.Types.{node_type, set_of_at}
 use Rattle.store.proofs.node_at as at_fn
 use Rattle.sets.proofs.same as same_fn
 use Rattle.store.proofs.place_of as this
@@ -44,7 +44,7 @@ module _ (w : World) where
       does 6 s_bool (lt unsigned) (at 4 n64 refl) (at 2 n64 refl) fresh refl (λ u. refl) (λ u. tt) then
       joined _ (branches 6 flag refl (gone 6 (over s_bool) free skipped tt) (gone 6 (over s_bool) free left 1 tt)) (
       calls (node_at bs) (0 ∷ []) 5 (shr_arg the_row 0 tt 1 (a_lent the_row (named 0) 0) refl (num 4 n64 refl none)) fresh (tt, tt) refl then
-      calls (same bs) [] 7 (set_arg 5 (field 0 ∷ []) set_of refl (set_arg 3 [] a_set refl none)) fresh tt refl then
+      calls (same bs) [] 7 (set_arg 5 (field 0 ∷ []) set_of_at refl (set_arg 3 [] a_set refl none)) fresh tt refl then
       joined _ (branches 7 flag refl (
       puts 0 (s_int w64) (at 4 n64 refl) fresh refl (λ u. refl) (λ u. tt) then
       gone 2 (over (s_int w64)) free gone 3 set_room free gone 4 (over (s_int w64)) free gone 5 (value_room node_type) free gone 7 (over s_bool) free returned tt) (skipped tt)) (

@@ -1,7 +1,7 @@
 -- `view::following` meets its contract: the view is taken apart, and the function on bytes and numbers is called.
 use Rattle.walks.proofs.Facts.{refl, List, [], ◌∷◌, ℕ}
 use Rattle.walks.proofs.Steps.{w64, field, named, erased, imm, tables_of, s_int, World, Callee, ◌then◌, ◌free◌, returned, n64, fresh, over, part, puts, gone, none, num, calls, ptr, slice_room, shr_arg, a_lent, takes_slice, site, Walked, Laid, meets, world}
-use Rattle.view.proofs.Types.{byte, sheet_of, states_of, commands_of, sheet_in_view}
+use Rattle.view.proofs.Types.{byte, sheet_of_encode, states_of_at, commands_of_at, sheet_in_view}
 use Rattle.view.proofs.Jobs.{following as job}
 use Rattle.view.proofs.viewed_at as at_fn
 use Rattle.view.proofs.following as this
@@ -12,9 +12,9 @@ module _ (w : World) where
 
   abbrev walk : Walked job w this.Code.env this.Code.function
   walk κs qs bs =
-      takes_slice byte 4 1 0 (ptr byte erased imm) (part 1 (field 0 ∷ []) (sheet_of (named 0) 0) refl) (sheet_in_view 0) fresh refl (λ m. refl) (λ b o n. tt) then
-      puts 5 (s_int w64) (part 1 (field 1 ∷ []) (states_of 0) refl) fresh refl (λ u. refl) (λ u. tt) then
-      puts 6 (s_int w64) (part 1 (field 2 ∷ []) (commands_of 0) refl) fresh refl (λ u. refl) (λ u. tt) then
+      takes_slice byte 4 1 0 (ptr byte erased imm) (part 1 (field 0 ∷ []) (sheet_of_encode (named 0) 0) refl) (sheet_in_view 0) fresh refl (λ m. refl) (λ b o n. tt) then
+      puts 5 (s_int w64) (part 1 (field 1 ∷ []) (states_of_at 0) refl) fresh refl (λ u. refl) (λ u. tt) then
+      puts 6 (s_int w64) (part 1 (field 2 ∷ []) (commands_of_at 0) refl) fresh refl (λ u. refl) (λ u. tt) then
       calls (viewed-at bs) (0 ∷ []) 0 (shr_arg byte 0 tt 4 (a_lent byte erased 0) refl (num 5 n64 refl (num 6 n64 refl (num 2 n64 refl (num 3 n64 refl none))))) fresh (tt, tt) (refl, λ b o n. tt) then
       gone 2 (over (s_int w64)) free gone 3 (over (s_int w64)) free gone 4 (slice_room byte erased 0) free gone 5 (over (s_int w64)) free gone 6 (over (s_int w64)) free
       returned tt

@@ -1,14 +1,14 @@
 -- `view::states` meets its contract: a field of the view is read.
 use Rattle.walks.proofs.Facts.{refl, [], ◌∷◌}
 use Rattle.walks.proofs.Steps.{w64, field, tables_of, s_int, World, ◌then◌, returned, fresh, part, puts, Walked, Laid, meets, world}
-use Rattle.view.proofs.Types.{states_of}
+use Rattle.view.proofs.Types.{states_of_at}
 use Rattle.view.proofs.Jobs.{states as job}
 use Rattle.view.proofs.states as this
 
 module _ (w : World) where
   abbrev walk : Walked job w this.Code.env this.Code.function
   walk κs qs bs =
-      puts 0 (s_int w64) (part 1 (field 1 ∷ []) (states_of 0) refl) fresh refl (λ u. refl) (λ u. tt) then
+      puts 0 (s_int w64) (part 1 (field 1 ∷ []) (states_of_at 0) refl) fresh refl (λ u. refl) (λ u. tt) then
       returned tt
 
   laid : Laid job w this.Code.env this.Code.function walk
