@@ -1,5 +1,7 @@
 // Sets of states as 64-bit numbers: bit s stands for state s. This is the only place with masks and shifts on sets, and every question that is asked of
 // a set is asked here: no other crate knows that a set is a number. Each contract is in the words of `meaning`.
+#![tactic(auto)]
+
 ghost use Rattle.std.specs.Prelude.{◌≡◌, cond, ◌<◌, ◌^◌, ltb};
 ghost use Rattle.std.specs.Int.Count.{count_trailing_zeros};
 ghost use Rattle.meaning.specs.Sets.{◌∈◌, ◌⊆◌, size, Tells};

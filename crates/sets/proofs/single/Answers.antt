@@ -8,21 +8,14 @@ use borrow.Author.Tests.{lt-ltb, le-ltb}
 use Rattle.sets.specs.Words.{most, set_for}
 use Rattle.sets.proofs.Masks.{one_shl}
 use Rattle.sets.proofs.ByWord.{lone_word}
-use Rattle.sets.proofs.single.Statement.{statement}
-use Rattle.sets.proofs.single.Tie as tie
+use Rattle.sets.proofs.single.Goals as goal
 
-shl-result : tie.Need-overflow-shl-result
-shl-result c = search rules
-
-returns : tie.Need-returns
+pub returns-then-s-lt-MOST : goal.returns-then-s-lt-MOST
 unfolding set_for
-returns c =
-    let s = c.before.args.s in
+returns-then-s-lt-MOST c =
+    let s = c.args.s in
     one_shl 64 s (search rules) ∙ sym (lone_word 64 (2 ^ s) [] refl) ∙ sym (ap (λ (b : Bool). cond b (2 ^ s) 0) (lt-ltb s most (search rules)))
 
-returns-2 : tie.Need-returns-2
+pub returns-else-s-lt-MOST : goal.returns-else-s-lt-MOST
 unfolding set_for
-returns-2 c = let s = c.before.args.s in sym (ap (λ (b : Bool). cond b (2 ^ s) 0) (le-ltb s most (search rules)))
-
-pub single-spec : {M : Type 1} → statement M
-single-spec = tie.close (tie.spec shl-result returns returns-2)
+returns-else-s-lt-MOST c = let s = c.args.s in sym (ap (λ (b : Bool). cond b (2 ^ s) 0) (le-ltb s most (search rules)))

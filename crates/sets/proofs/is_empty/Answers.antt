@@ -5,12 +5,8 @@ use borrow.Author.Rules.{rules}
 use Rattle.meaning.proofs.Tests.{yes_tells}
 use Rattle.sets.specs.Words.{set_of}
 use Rattle.sets.proofs.ByWord.{empty-by-word}
-use Rattle.sets.proofs.is_empty.Statement.{statement}
-use Rattle.sets.proofs.is_empty.Tie as tie
+use Rattle.sets.proofs.is_empty.Goals as goal
 
-returns : tie.Need-returns
+pub returns : goal.returns
 unfolding set_of
 returns c = empty-by-word 64 c.args.x [] (search rules) (yes_tells refl)
-
-pub is_empty_spec : {M : Type 1} → statement M
-is_empty_spec = tie.close (tie.spec returns)

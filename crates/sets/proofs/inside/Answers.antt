@@ -4,12 +4,8 @@ use borrow.Author.Rules.{rules}
 use Rattle.meaning.proofs.Tests.{yes_tells}
 use Rattle.sets.specs.Words.{set_of}
 use Rattle.sets.proofs.ByWord.{inside-by-word}
-use Rattle.sets.proofs.inside.Statement.{statement}
-use Rattle.sets.proofs.inside.Tie as tie
+use Rattle.sets.proofs.inside.Goals as goal
 
-returns : tie.Need-returns
+pub returns : goal.returns
 unfolding set_of
 returns c = inside-by-word 64 c.args.x c.args.y [] [] (search rules) (search rules) (yes_tells (λ s m. m))
-
-pub inside-spec : {M : Type 1} → statement M
-inside-spec = tie.close (tie.spec returns)
