@@ -1,4 +1,6 @@
 // Big-endian numbers in bytes: the number at an offset of a slice, and a number's bytes stored at an offset.
+#![tactic(auto)]
+
 ghost use Rattle.std.specs.Prelude.{◌≡◌, ◌+◌, ◌*◌, ◌^◌, ◌≤◌, ◌<◌, length};
 ghost use Rattle.std.proofs.lemmas.List.Edits.{sets as stored};
 ghost use Rattle.numbers.specs.Bytes.{part, number_at, bytes_of, AreBytes};
