@@ -1,4 +1,6 @@
 // Numbers in decimal as bytes in a lent buffer: a number alone, a field (a blank and a number), and fields one after another.
+#![tactic(auto)]
+
 ghost use Rattle.std.specs.Prelude.{◌≡◌, ◌∷◌, ◌+◌, ◌≤◌, length};
 ghost use Rattle.std.proofs.lemmas.List.Edits.{sets as stored};
 ghost use Rattle.decimal.specs.Decimal.{decimal};
