@@ -1,5 +1,2 @@
-pub mod SetSteps
 pub mod PathLaws
-pub mod Types
-pub mod Jobs
 pub mod Unique

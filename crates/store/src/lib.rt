@@ -1,5 +1,7 @@
 // The store of a search: a lent slice of records of set, parent and command. Only `node_at` and `put` touch a record of it; the others look a set up
 // and read a plan back.
+#![tactic(auto)]
+
 ghost use Rattle.std.specs.Prelude.{◌≡◌, ◌<◌, ◌≤◌, length, set as set_at, get_or};
 ghost use Rattle.sets.specs.Words.{set_of};
 ghost use Rattle.store.specs.Nodes.{nothing, node, Found};
@@ -9,7 +11,7 @@ use sets::{Set, same};
 
 // One place of the store, laid out as C lays it out: a function of the plugin takes a slice of them.
 #[repr(C)]
-#[derive(Drop)]
+#[derive(Clone, Copy)]
 pub struct Node {
     pub set: Set,
     pub parent: u32,
