@@ -1,4 +1,3 @@
--- Set aside for the time of the port: this file of crate walks does not check against today's logic yet; it comes back to crates/walks/proofs/Steps.antt, and then goes from here.
 -- Every name that a walk, its contract and its types use, passed on from where it stands: a proof by a walk names this one file for them.
 pub use mir.Syntax.{w64, bit_and, mul, unsigned, offset, field, named, imm, add, lt, eq, ne, cast, w32, w8, mut, le, erased, sub, ty_array, ty_int, ty_bool, ty_ptr, ty_unit}
 pub use mir.Val.{vint, vbool}
