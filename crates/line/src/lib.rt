@@ -1,4 +1,6 @@
 // The printed line as bytes in a lent buffer: one of five words, decimal fields with a blank before each, and a line feed.
+#![tactic(auto)]
+
 ghost use Rattle.std.specs.Prelude.{◌≡◌, [], ◌∷◌, ◌++◌, ◌+◌, ◌≤◌, length};
 ghost use Rattle.std.proofs.lemmas.List.Edits.{sets as stored};
 ghost use Rattle.decimal.specs.Fields.{capped};

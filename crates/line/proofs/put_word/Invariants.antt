@@ -1,0 +1,12 @@
+-- `line::put_word`. The loop's invariant: the first i bytes of the word stand in the buffer. The measure is how many are left.
+use mathlib.Core.Path.{◌≡◌}
+use Prim.Native.Nat.{◌-◌, ◌≤◌}
+use lib.ListN.{length, take}
+use lib.Seq.{sets}
+use Rattle.line.proofs.put_word.Given as goal
+
+abbrev pub invariant-loop-i : goal.invariant-loop-i
+invariant-loop-i l = (l.i ≤ length l.word) × (l.out ≡ sets l.initial.out l.at (take l.i l.word))
+
+abbrev pub decreases-loop-i : goal.decreases-loop-i
+decreases-loop-i l = length l.word - l.i
