@@ -8,7 +8,7 @@ ghost use Rattle.line.specs.Lines.{row, answer_of, line_of};
 ghost use Rattle.line.specs.Placing.{Placed};
 
 // What is printed. The commands of a plan come beside it, as bytes.
-#[derive(Drop)]
+#[derive(Clone, Copy)]
 pub enum Line {
     Plan { count: usize, length: usize },
     None { count: usize },
@@ -18,7 +18,7 @@ pub enum Line {
 }
 
 // Where the printed bytes end in the buffer; or, where it is too short, how many bytes it has to have, the largest number standing for all above it too.
-#[derive(Drop)]
+#[derive(Clone, Copy)]
 pub enum Printed {
     End(usize),
     Short(usize),
