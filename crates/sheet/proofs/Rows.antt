@@ -13,6 +13,8 @@ use lib.ListN.{length, get_or, drop, drop_of_length-le}
 use lib.Seq.{drop-cons}
 use borrow.Author.Tests.{le-leb, lt-leb, ltb-false}
 use Rattle.meaning.proofs.Tests.{clash}
+use Rattle.sets.specs.Words.{Value, set_of, set_for}
+use Rattle.sets.proofs.Values.{stands_for}
 use Rattle.meaning.specs.Sets.{Tells}
 use Rattle.sheet.specs.Sheet.{set_offset, from}
 use Rattle.sheet.specs.Refusals.{Row, row, verdict, missing, outside, set_rows}
@@ -112,6 +114,10 @@ get_or_from_0 f k j h = get_or_from f 0 k j h ∙ ap f (omega arith)
 pub not_within : (states x : ℕ) (b : Bool) → Tells b (x < 2 ^ states) → not b ≡ missing states x
 not_within states x true t = sym (lt-leb (2 ^ states) x (t.if_true refl))
 not_within states x false t = sym (le-leb (2 ^ states) x (le_of_suc-le-suc (lt_of_not-le (t.if_false refl))))
+
+-- what the test says of the set that a value stands for
+pub tested : (states x : ℕ) {s : Value} {b : Bool} → s ≡ set_for x → b ≡ missing states (set_of s) → missing states x ≡ b
+tested states x e f = ap (λ (y : ℕ). missing states y) (sym (stands_for e)) ∙ sym f
 
 -- the greatest sheet has 2048 following sets
 pub product : {a b : ℕ} → a ≤ 32 → b ≤ 64 → a * b ≤ 2048

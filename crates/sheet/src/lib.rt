@@ -1,4 +1,6 @@
 // Sheets: what a scanner's states, commands and following sets are, as bytes. Reading gives the head, or a refusal by the table.
+#![tactic(auto)]
+
 ghost use Rattle.std.specs.Prelude.{◌≡◌, ◌||◌, map, ◌+◌, ◌*◌, ◌≤◌, ◌<◌, eqb, length, get_or};
 ghost use Rattle.sets.specs.Words.{set_of, set_for};
 ghost use Rattle.numbers.specs.Bytes.{part, number_at, AreBytes};
