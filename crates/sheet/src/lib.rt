@@ -31,7 +31,7 @@ pub const SET_WIDTH: usize = 8;
 pub const SHORTEST: usize = 18;
 
 // What a sheet says before its following sets.
-#[derive(Drop)]
+#[derive(Clone, Copy)]
 pub struct Head {
     pub states: usize,
     pub commands: usize,
@@ -40,27 +40,27 @@ pub struct Head {
 }
 
 // A number of the table of refusals, with its place.
-#[derive(Drop)]
+#[derive(Clone, Copy)]
 pub struct Refusal {
     pub number: u8,
     pub place: usize,
 }
 
-#[derive(Drop)]
+#[derive(Clone, Copy)]
 pub enum Reading {
     Accepted(Head),
     Refused(Refusal),
 }
 
 // What some rows of the table say.
-#[derive(Drop)]
+#[derive(Clone, Copy)]
 pub enum Check {
     Passed,
     Failed(Refusal),
 }
 
 // What is said of the number of following sets: the stated length in reading, and in writing how many are given.
-#[derive(Drop)]
+#[derive(Clone, Copy)]
 pub enum Counted {
     Stated(usize),
     Given(usize),
