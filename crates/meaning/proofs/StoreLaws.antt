@@ -98,7 +98,8 @@ module _ (next : ℕ → ℕ → Option ℕ) (init : ℕ) {l : List Entry} (s : 
       go (later {f} h q) (initial u v w) = absurd (not_initial f.seq n.command (subst (λ (x : ℕ). At l x a.entry) u a.at_place) q)
       go (later {f} h q) (later {f = f'} h' q') =
           let r = then_inj f.seq f'.seq n.command m.command (sym q ∙ ap (λ (x : Entry). x.seq) same ∙ q') in
-          λ i. record { set = sets i; parent = place_of-seq s.sorted h h' r.0 i; command = r.1 i }
+          let parents : n.parent ≡ m.parent = omega (arith, place_of-seq s.sorted h h' r.0) in
+          λ i. record { set = sets i; parent = parents i; command = r.1 i }
 
   -- a parent stands at an earlier place
   pub parent-lt : {k : ℕ} {n : Node} → Holds l k n → k ≢ 0 → n.parent < k
@@ -106,7 +107,7 @@ module _ (next : ℕ → ℕ → Option ℕ) (init : ℕ) {l : List Entry} (s : 
     where
       go : Link l k a.entry n → n.parent < k
       go (initial u v w) = absurd (ne u)
-      go (later {f} h q) = place-lt s.sorted h a.at_place (subst (λ (p : List ℕ). Before f.seq p) (sym q) (before-then_self f.seq n.command))
+      go (later {f} h q) = omega (arith, place-lt s.sorted h a.at_place (subst (λ (p : List ℕ). Before f.seq p) (sym q) (before-then_self f.seq n.command)))
 
   -- every place has its record, and it is the computed one
   pub node-holds : {k : ℕ} {e : Entry} → At l k e → Holds l k (node_of l e)
