@@ -1,4 +1,6 @@
 // What a sheet shows: its counts, and its following sets straight from the caller's bytes. A refused sheet has no states and no commands in it.
+#![tactic(auto)]
+
 ghost use Rattle.std.specs.Prelude.{◌≡◌, length};
 ghost use Rattle.sets.specs.Words.{set_for};
 ghost use Rattle.numbers.specs.Bytes.{number, IsPart};
