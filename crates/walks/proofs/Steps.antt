@@ -7,7 +7,8 @@ pub use denote.Slice.{slice_ty}
 pub use denote.RattleType.{RattleType}
 pub use borrow.Table.Row.{s_int, s_ptr, s_bool, s_unit, Cx, lease}
 pub use borrow.Table.Rows.{sc_here, whole}
-pub use borrow.Table.Referent.{rt_f, f_int}
+pub use borrow.Table.Referent.{rt_f, f_int, laws_f}
+pub use borrow.Table.Copies.{c_rf}
 pub use borrow.Rule.Scalar.{After}
 pub use borrow.Rule.Slice.Mut.{set_vals}
 pub use borrow.Rule.Array.Rows.{arr_f}
@@ -18,8 +19,8 @@ pub use borrow.Fn.World.{World}
 pub use borrow.Struct.Make.{FromWTs, u64_wt, u32_wt, u8_wt}
 pub use Rattle.walks.proofs.Walk.{◌then◌, ◌free◌, returned, n64, fresh, over, same, at, part, lit, does, gone, ◌with◌, last, skipped, left, joined, branches, loops, flag, puts, none, num, calls, turns, n32, n8, unit, now as here, ◌$◌, begins, ends, forgets, Callee, num_of, num_lit, num_top, big, u64, Site, SeesAt}
 pub use Rattle.walks.proofs.Values.{holds, value_room, copies_value, makes_struct, ◌&◌, nil, is, val_arg, ty_of, result, Value, struct_of, field_of, param, enum_of}
-pub use Rattle.walks.proofs.Slices.{ptr, shr_ptr, shr_arg, a_lent, kept, mut_ptr, mut_len, mut_all, owed_len, lends, slices, backs, mut_arg, shares, shared_len, slices_shared, slice_room, unshares, shr_len, shr_all}
-pub use Rattle.walks.proofs.Elements.{fetches, stores, arr_ptr, arr_room, fills, as_array, lends_array, backs_array}
+pub use Rattle.walks.proofs.Slices.{ptr, shr_ptr, shr_arg, a_lent, kept, mut_ptr, mut_len, mut_all, owed_len, lends, slices, backs, mut_arg, each_copied, shares, shared_len, slices_shared, slice_room, unshares, shr_len, shr_all}
+pub use Rattle.walks.proofs.Elements.{cp, fetches, stores, arr_ptr, arr_room, fills, as_array, lends_array, backs_array}
 pub use Rattle.walks.proofs.Meets.{Walked, Laid, meets, Cited, cites, site, Job, job_of, begun, world}
 pub use denote.Array.{Array}
 pub use Rattle.walks.proofs.Arrays.{to, lends_ref, backs_ref, ref_all, ref_arg}

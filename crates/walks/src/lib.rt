@@ -1,2 +1,2 @@
-// The steps by which a function over references to structs is walked: proofs only, for the reading view and the node store.
+// The steps by which a function is walked by hand, over references to structs too, and the plain facts that other crates cite: proofs only.
 #![tactic(auto)]
