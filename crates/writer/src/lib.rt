@@ -1,4 +1,6 @@
 // Writing a sheet: its bytes into the start of a lent output, or a refusal by the table, which changes no byte.
+#![tactic(auto)]
+
 ghost use Rattle.std.specs.Prelude.{◌≡◌, [], ◌∷◌, ◌+◌, ◌*◌, ◌≤◌, length};
 ghost use Rattle.std.proofs.lemmas.List.Edits.{sets as stored};
 ghost use Rattle.sets.specs.Words.{set_of};
@@ -13,7 +15,7 @@ use sheet::{
     STATED_AT, STATES_AT, check_given, check_head, given_set,
 };
 
-#[derive(Drop)]
+#[derive(Clone, Copy)]
 pub enum Writing {
     Written(usize),
     Refused(Refusal),
