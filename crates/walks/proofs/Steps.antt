@@ -3,6 +3,7 @@ pub use mir.Syntax.{w64, bit_and, mul, unsigned, offset, field, named, imm, add,
 pub use mir.Val.{vint, vbool}
 pub use contract.Lifetimes.{Lfts, Shares}
 unfoldable pub use contract.Running.{tables_of}
+pub use denote.MutBor.{now}
 pub use denote.Slice.{slice_ty}
 pub use denote.RattleType.{RattleType}
 pub use borrow.Table.Row.{s_int, s_ptr, s_bool, s_unit, Cx, lease}
