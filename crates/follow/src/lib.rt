@@ -1,5 +1,7 @@
 // One command from one set: whether it is sendable, and its image. The following sets are read straight from the sheet's bytes, by the head
 // that the reader gave.
+#![tactic(auto)]
+
 ghost use Rattle.std.specs.Prelude.{◌≡◌};
 ghost use Rattle.meaning.specs.Walk as walk;
 ghost use Rattle.sets.specs.Words.{set_of, set_for};
