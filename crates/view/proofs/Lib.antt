@@ -1,3 +1,1 @@
 pub mod ViewLaws
-pub mod Types
-pub mod Jobs

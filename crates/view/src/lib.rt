@@ -1,4 +1,6 @@
 // The reading view of a sheet: a record that refers to the caller's bytes, with one thin function for each question.
+#![tactic(auto)]
+
 ghost use Rattle.std.specs.Prelude.{◌≡◌};
 ghost use Rattle.numbers.specs.Bytes.{IsPart};
 ghost use Rattle.shown.specs.Following.{following, following_from};
