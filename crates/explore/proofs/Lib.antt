@@ -1,5 +1,3 @@
 pub mod TurnLaws
 pub mod NextLaws
-pub mod Types
-pub mod Jobs
 pub mod Unique

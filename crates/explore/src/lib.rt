@@ -1,5 +1,7 @@
 // The exploration of a search, over a store that the caller lends. Places are expanded in order, each by the commands in order, so the store fills up
 // with the listing; the goal test is made when a set is stored.
+#![tactic(auto)]
+
 ghost use Rattle.std.specs.Prelude.{◌≡◌, false, ◌+◌, ◌≤◌, ◌<◌, eqb, length};
 ghost use Rattle.meaning.specs.Answers.{room as room_for};
 ghost use Rattle.sets.specs.Words.{set_of, IsValue};
@@ -26,14 +28,14 @@ const GOES_ON: u8 = 3;
 const MOST_PLACES: usize = 65536;
 
 // How a part of the search ended, and how many places are then stored.
-#[derive(Drop)]
+#[derive(Clone, Copy)]
 pub struct Turn {
     pub kind: u8,
     pub count: usize,
 }
 
 // What a command gave at a place: a set that no place holds yet, or nothing new.
-#[derive(Drop)]
+#[derive(Clone, Copy)]
 struct Next {
     new: bool,
     set: Set,
