@@ -89,7 +89,7 @@ module _ (l : List ℕ) (a b : Bor (List ℕ)) {c : ℕ} (u : ChoiceOf l a.now b
     neither = λ n m. absurd (omega (arith, e, u.neither n m));
   }
 
-  pub hands_nothing : {r : Bor (List ℕ)} → ¬ (c ≡ 1) → ¬ (c ≡ 2) → r.now ≡ [] → r.ref_ptr ≡ a.ptr → BetterOf l a b r
+  pub hands_nothing : {r : Bor (List ℕ)} → ¬ (c ≡ 1) → ¬ (c ≡ 2) → r.now ≡ [] → r.ref_ptr ≡ a.ref_ptr → BetterOf l a b r
   hands_nothing n m e p = record {
     first = λ g h. absurd (n (u.first g h));
     second = λ g h. absurd (m (u.second g h));

@@ -1,4 +1,6 @@
 // The judge: whether a plan is good for a sheet, and why not; and the better of two plans.
+#![tactic(auto)]
+
 ghost use Rattle.std.specs.Prelude.{◌≡◌};
 ghost use Rattle.meaning.specs.Answers as answers;
 ghost use Rattle.meaning.specs.Answers.{Judges, judged};
@@ -12,14 +14,14 @@ use follow::{image, sendable};
 use sets::Set;
 use sheet::{Head, Reading, Refusal};
 
-#[derive(Drop)]
+#[derive(Clone, Copy)]
 pub enum Verdict {
     Good,
     Refused(Refusal),
 }
 
 // The verdict, the set where the walk ended, and how many states are still possible there.
-#[derive(Drop)]
+#[derive(Clone, Copy)]
 pub struct Judged {
     pub verdict: Verdict,
     pub set: Set,
@@ -27,7 +29,7 @@ pub struct Judged {
 }
 
 // Where a walk ended: after so many commands, with that set.
-#[derive(Drop)]
+#[derive(Clone, Copy)]
 struct End {
     at: usize,
     set: Set,
