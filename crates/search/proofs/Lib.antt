@@ -5,7 +5,5 @@ pub mod Unique
 pub mod Means
 pub mod Rooms
 pub mod Impostors
-pub mod Types
-pub mod Jobs
 pub mod Told
 pub mod BenchSheets

@@ -1,4 +1,6 @@
 // The search for the shortest plan, over a store that the caller lends: the exploration fills the store, and a plan that was found is read back from it.
+#![tactic(auto)]
+
 ghost use Rattle.std.specs.Prelude.{◌≡◌};
 ghost use Rattle.sets.specs.Words.{set_of, IsValue};
 ghost use Rattle.follow.specs.Following.{domain_by};
@@ -12,7 +14,7 @@ use sheet::{Head, Reading, head_of, read};
 use store::{Node, blank, read_back};
 
 // A plan, no plan, or a refusal by its number.
-#[derive(Drop)]
+#[derive(Clone, Copy)]
 pub enum Verdict {
     Plan,
     NoPlan,
@@ -20,7 +22,7 @@ pub enum Verdict {
 }
 
 // What a search answers. The place is that of a refusal, and `length` is that of the plan.
-#[derive(Drop)]
+#[derive(Clone, Copy)]
 pub struct Answer {
     pub verdict: Verdict,
     pub place: usize,

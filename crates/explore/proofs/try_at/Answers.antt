@@ -5,7 +5,7 @@ use Rattle.explore.proofs.TurnLaws.{tried-old, tried_full, tried_new}
 use Rattle.explore.proofs.try_at.Goals as goal
 
 pub returns-then-count-room : goal.returns-then-count-room
-returns-then-count-room c = tried_full c.requires.going c.requires.i_lt_count (c.next_at-next.ensures.fresh c.if-new.true) c.if-count-room.true c.turned.ensures
+returns-then-count-room c = tried_full c.requires.going c.requires.i_lt_count (c.next_at-next.ensures.fresh c.if-new.true) (omega (arith, c.requires.going.fits)) c.turned.ensures
 
 pub returns-then-new : goal.returns-then-new
 returns-then-new c =
