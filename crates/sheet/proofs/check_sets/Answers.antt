@@ -29,7 +29,7 @@ returns-then-names_missing-clause-value c =
     let a = c.args in
     let l = a.sheet.now in
     let i = c.loop-i.i in
-    let h = c.loop-i-test.true in
+    let h : i < a.count = omega arith in
     let t = tested_there l a.states a.count i h c.set_in.ensures.value c.if-names_missing.ensures in
     c.failed.ensures ∙ sym (c.loop-i.invariant.1 ∙ set_fails Failed Passed a.states (Sets l a.count) i (within l a.count i h) t)
 
@@ -38,7 +38,7 @@ loop-i-preserved c =
     let a = c.args in
     let l = a.sheet.now in
     let i = c.loop-i.i in
-    let h = c.loop-i-test.true in
+    let h : i < a.count = omega arith in
     let t = tested_there l a.states a.count i h c.set_in.ensures.value c.if-names_missing.ensures in (
       omega arith,
       c.loop-i.invariant.1 ∙ set_passes Failed Passed a.states (Sets l a.count) i (within l a.count i h) t,
