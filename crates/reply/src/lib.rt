@@ -1,4 +1,6 @@
 // From a sheet's bytes to the line that is printed for it.
+#![tactic(auto)]
+
 ghost use Rattle.std.specs.Prelude.{◌≡◌, min};
 ghost use Rattle.reply.specs.Replies.{line_for, refusal_line, Replied};
 
