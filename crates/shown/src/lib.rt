@@ -91,7 +91,7 @@ pub fn following<'a>(sheet: &'a [u8], command: usize, state: usize) -> &'a [u8]
 }
 
 // Where these bytes stand in the sheet: an offset and how many they are, both 0 where there are none.
-#[derive(Drop)]
+#[derive(Clone, Copy)]
 pub struct Span {
     pub from: usize,
     pub length: usize,

@@ -7,14 +7,14 @@ ghost use Rattle.shown.specs.Following.{following, following_from};
 ghost use Rattle.view.specs.Views.{states_of, commands_of, viewed, viewed_from};
 
 // The caller's sheet and its counts.
-#[derive(Drop)]
+#[derive(Clone, Copy)]
 pub struct View<'a> {
     pub sheet: &'a [u8],
     pub states: usize,
     pub commands: usize,
 }
 
-#[derive(Drop)]
+#[derive(Clone, Copy)]
 struct Counts {
     states: usize,
     commands: usize,
