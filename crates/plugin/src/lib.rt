@@ -1,5 +1,6 @@
-// The functions that C and Rust link. Each calls a function of the libraries, takes its answer apart, and stores the answer's numbers in an array that
+// The functions that `plugin_c` hands to C and Rust. Each calls a function of the libraries, takes its answer apart, and stores the answer's numbers in an array that
 // the caller lends. Nothing is asked of what a caller's buffers hold: bad input gets a refusal.
+#![tactic(auto)]
 ghost use Rattle.std.specs.Prelude.{◌≡◌, length};
 ghost use Rattle.sheet.specs.Sheet.{sheet_with};
 ghost use Rattle.sheet.specs.Answers.{reading};
@@ -76,16 +77,14 @@ fn put_search(a: Answer, answer: &mut [u64; 4])
 }
 
 // Reads a sheet: number (0 for accepted), place, states, commands, initial set, goal set.
-#[unsafe(no_mangle)]
-pub extern "C" fn potuchlan_read(sheet: &[u8], answer: &mut [u64; 6])
+pub fn potuchlan_read(sheet: &[u8], answer: &mut [u64; 6])
     ensures { answer.new ≡ reading_numbers (reading sheet.now) }
 {
     *answer = read_numbers(sheet::read(sheet));
 }
 
 // Writes a sheet: number (0 for written), place, bytes written.
-#[unsafe(no_mangle)]
-pub extern "C" fn potuchlan_write(
+pub fn potuchlan_write(
     states: usize,
     commands: usize,
     initial: u64,
@@ -103,8 +102,7 @@ pub extern "C" fn potuchlan_write(
 }
 
 // Where the bytes of a following set stand in the sheet: offset and length, both 0 where the command or the state is missing or the sheet is refused.
-#[unsafe(no_mangle)]
-pub extern "C" fn potuchlan_following(
+pub fn potuchlan_following(
     sheet: &[u8],
     command: usize,
     state: usize,
@@ -117,24 +115,21 @@ pub extern "C" fn potuchlan_following(
 }
 
 // Judges a plan: number (0 for good), place, set, states still possible.
-#[unsafe(no_mangle)]
-pub extern "C" fn potuchlan_judge(sheet: &[u8], plan: &[u8], answer: &mut [u64; 4])
+pub fn potuchlan_judge(sheet: &[u8], plan: &[u8], answer: &mut [u64; 4])
     ensures { JudgedInto sheet.now plan.now answer.new }
 {
     *answer = judged_numbers(judge::judge(sheet, plan));
 }
 
 // Which of two plans is the better: 1 the first, 2 the second, 0 neither.
-#[unsafe(no_mangle)]
-pub extern "C" fn potuchlan_better(sheet: &[u8], first: &[u8], second: &[u8]) -> u8
+pub fn potuchlan_better(sheet: &[u8], first: &[u8], second: &[u8]) -> u8
     ensures { ChoiceOf sheet.now first.now second.now result }
 {
     judge::choice(sheet, first, second)
 }
 
 // Searches for the shortest plan over a store that is lent: number (0 for a plan, 255 for no plan), place, count, length.
-#[unsafe(no_mangle)]
-pub extern "C" fn potuchlan_search(
+pub fn potuchlan_search(
     sheet: &[u8],
     store: &mut [Node],
     plan: &mut [u8],
@@ -147,8 +142,7 @@ pub extern "C" fn potuchlan_search(
 }
 
 // The same over a store of 4,096 places that the caller does not see.
-#[unsafe(no_mangle)]
-pub extern "C" fn potuchlan_search_here(sheet: &[u8], plan: &mut [u8], answer: &mut [u64; 4])
+pub fn potuchlan_search_here(sheet: &[u8], plan: &mut [u8], answer: &mut [u64; 4])
     ensures { SearchedHereInto 4096 sheet.now plan.old plan.new answer.new }
 {
     put_search(search::search_here(sheet, plan), answer);
