@@ -6,7 +6,7 @@ use std::process::exit;
 fn main() {
     println!("cargo:rerun-if-env-changed=POTUCHLAN_LIB");
     let Ok(folder) = env::var("POTUCHLAN_LIB") else {
-        eprintln!("POTUCHLAN_LIB is not set: set it to the folder that has libplugin.a, which `rt lib` in crates/plugin makes in crates/plugin/out");
+        eprintln!("POTUCHLAN_LIB is not set: set it to the folder that has libplugin.a, which `plugin/build-archive` makes in target/staticlib");
         exit(1);
     };
     let folder = match Path::new(&folder).canonicalize() {
