@@ -2,7 +2,7 @@
 // and read a plan back.
 #![tactic(auto)]
 
-ghost use Rattle.std.specs.Prelude.{◌≡◌, ◌<◌, ◌≤◌, length, set as set_at, get_or};
+ghost use Rattle.std.specs.Prelude.{◌≡◌, ◌<◌, ◌≤◌, length, set as put_at, get_or};
 ghost use Rattle.sets.specs.Words.{set_of};
 ghost use Rattle.store.specs.Nodes.{nothing, node, Found};
 ghost use Rattle.store.specs.Paths.{HasPath, LengthOf, WrittenBack, ReadBack};
@@ -41,7 +41,7 @@ pub fn node_at(store: &[Node], i: usize) -> Node
 // Stores a record at place `i`.
 pub fn put(store: &mut [Node], i: usize, set: Set, parent: u32, command: u8)
     requires { i < length store.old }
-    ensures { store.new ≡ set_at store.old i (node set parent command) }
+    ensures { store.new ≡ put_at store.old i (node set parent command) }
 {
     store[i] = Node {
         set: set,
@@ -84,7 +84,7 @@ fn plan_length(store: &[Node], at: usize) -> usize
 // Writes one command of a plan.
 fn put_command(plan: &mut [u8], i: usize, command: u8)
     requires { i < length plan.old }
-    ensures { plan.new ≡ set_at plan.old i command }
+    ensures { plan.new ≡ put_at plan.old i command }
 {
     plan[i] = command;
 }
