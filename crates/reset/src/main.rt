@@ -1,19 +1,41 @@
 // Reads a sheet from standard input, searches for its reset, and writes the line of the answer.
+#![tactic(auto)]
+
+ghost use Rattle.std.specs.Prelude.{◌≤◌, length, IfOk};
+
 use line::Printed;
+use std::io;
+use std::io::Read;
 
 // No line is longer: `line_at_most` of `reply`.
 const LONGEST: usize = 12300;
 
-fn main() {
+// Reads until the buffer is full or the input ends. How many bytes now stand at the start of the buffer.
+fn read_full<R: Read>(from: &mut R, buffer: &mut [u8]) -> io::Result<usize>
+    ensures { IfOk result (λ n. n ≤ length buffer.new) }
+{
+    let mut done = 0;
+    while done < buffer.len() {
+        let n = from.read(&mut buffer[done..])?;
+        if n == 0 {
+            break;
+        }
+        done += n;
+    }
+    Ok(done)
+}
+
+fn main(rt: HostRuntime) -> io::Result<()> {
     let mut input = [0u8; 16408];
-    let n = io::read_full(0, &mut input);
+    let n = read_full(&mut rt.stdin(), &mut input)?;
     let mut out = [0u8; LONGEST];
     match reply::put(&input[0..n], &mut out) {
         Printed::End(end) => {
             if end <= LONGEST {
-                io::write_all(1, &out[0..end]);
+                rt.write_all(&out[0..end])?;
             }
         }
         Printed::Short(_) => {}
     }
+    Ok(())
 }
