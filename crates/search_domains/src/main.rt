@@ -1,9 +1,12 @@
 // Searches the published test domains of document 001 that have at most 64 states, and prints a line for each: the label, the verdict, the count and
 // the length of the plan, which the document's tables give.
+#![tactic(auto)]
+
 ghost use Rattle.std.specs.Prelude.{◌≤◌, ◌<◌};
 
 use search::{Answer, Verdict, search_here};
 use sets::{Set, empty, single, to_word, union};
+use std::io;
 use writer::Writing;
 
 // A room or a cube of side n, whose walls stop a move; the bomb in the toilet with n packages; with clogging; and with uncertain clogging.
@@ -16,7 +19,7 @@ const CLOGS: u8 = 2;
 const MAY_CLOG: u8 = 3;
 
 // A domain by its kind and size, with the head of its sheet.
-#[derive(Drop)]
+#[derive(Clone, Copy)]
 struct Domain {
     kind: u8,
     n: usize,
@@ -170,36 +173,43 @@ fn write_first(d: Domain, sets: &[u64], total: usize, out: &mut [u8]) -> usize {
     }
 }
 
-fn field(n: u64) {
-    io::write_all(1, b" ");
-    io::print_decimal(1, n);
+fn field(rt: &impl Print, n: u64) -> io::Result<()> {
+    rt.write_all(b" ")?;
+    rt.print(n)
 }
 
-fn say_answer(label: &[u8], a: Answer) {
-    io::write_all(1, label);
+fn say_answer(rt: &impl Print, label: &[u8], a: Answer) -> io::Result<()> {
+    rt.write_all(label)?;
     let verdict = a.verdict;
     match verdict {
         Verdict::Plan => {
-            io::write_all(1, b" PLAN");
+            rt.write_all(b" PLAN")?;
         }
         Verdict::NoPlan => {
-            io::write_all(1, b" NONE");
+            rt.write_all(b" NONE")?;
         }
         Verdict::Refused(number) => {
-            io::write_all(1, b" REFUSED");
-            field(number as u64);
+            rt.write_all(b" REFUSED")?;
+            field(rt, number as u64)?;
         }
     }
-    field(a.count as u64);
-    field(a.length as u64);
-    io::write_all(1, b"\n");
+    field(rt, a.count as u64)?;
+    field(rt, a.length as u64)?;
+    rt.write_all(b"\n")
 }
 
 // Searches the first n bytes.
-fn search_first(label: &[u8], bytes: &[u8], n: usize, plan: &mut [u8]) {
+fn search_first(
+    rt: &impl Print,
+    label: &[u8],
+    bytes: &[u8],
+    n: usize,
+    plan: &mut [u8],
+) -> io::Result<()> {
     if n <= bytes.len() {
-        say_answer(label, search_here(&bytes[0..n], plan));
+        say_answer(rt, label, search_here(&bytes[0..n], plan))?;
     }
+    Ok(())
 }
 
 // How many following sets a sheet has; 0 where it has too many states or commands.
@@ -213,13 +223,13 @@ fn sets_of(states: usize, commands: usize) -> usize {
     commands * states
 }
 
-fn say(label: &[u8], d: Domain) {
+fn say(rt: &impl Print, label: &[u8], d: Domain) -> io::Result<()> {
     let sets = table_of(d);
     let total = sets_of(d.states, d.commands);
     let mut bytes = [0u8; 16407];
     let n = write_first(d, &sets, total, &mut bytes);
     let mut plan = [0u8; 64];
-    search_first(label, &bytes, n, &mut plan);
+    search_first(rt, label, &bytes, n, &mut plan)
 }
 
 // From anywhere in a room of side n to a place of it.
@@ -260,18 +270,19 @@ fn clogging(kind: u8, p: usize) -> Domain
     }
 }
 
-fn square_rows() {
-    say(b"SQUARE-corner(3)", square(4, 16, 0));
-    say(b"SQUARE-corner(4)", square(5, 25, 0));
-    say(b"SQUARE-corner(5)", square(6, 36, 0));
-    say(b"SQUARE-corner(6)", square(7, 49, 0));
-    say(b"SQUARE-corner(7)", square(8, 64, 0));
-    say(b"SQUARE-side(3)", square(4, 16, 4));
-    say(b"SQUARE-center(3)", square(4, 16, 5));
+fn square_rows(rt: &impl Print) -> io::Result<()> {
+    say(rt, b"SQUARE-corner(3)", square(4, 16, 0))?;
+    say(rt, b"SQUARE-corner(4)", square(5, 25, 0))?;
+    say(rt, b"SQUARE-corner(5)", square(6, 36, 0))?;
+    say(rt, b"SQUARE-corner(6)", square(7, 49, 0))?;
+    say(rt, b"SQUARE-corner(7)", square(8, 64, 0))?;
+    say(rt, b"SQUARE-side(3)", square(4, 16, 4))?;
+    say(rt, b"SQUARE-center(3)", square(4, 16, 5))
 }
 
-fn cube_rows() {
+fn cube_rows(rt: &impl Print) -> io::Result<()> {
     say(
+        rt,
         b"CUBE-corner(3)",
         Domain {
             kind: GRID,
@@ -281,33 +292,40 @@ fn cube_rows() {
             initial: all(64),
             goal: single(0),
         },
-    );
+    )
 }
 
-fn bomb_rows() {
-    say(b"BT(4)", bomb(4));
-    say(b"BT(5)", bomb(5));
-    say(b"BT(6)", bomb(6));
-    say(b"BT(7)", bomb(7));
-    say(b"BT(8)", bomb(8));
-    say(b"BT(9)", bomb(9));
-    say(b"BT(10)", bomb(10));
+fn bomb_rows(rt: &impl Print) -> io::Result<()> {
+    say(rt, b"BT(4)", bomb(4))?;
+    say(rt, b"BT(5)", bomb(5))?;
+    say(rt, b"BT(6)", bomb(6))?;
+    say(rt, b"BT(7)", bomb(7))?;
+    say(rt, b"BT(8)", bomb(8))?;
+    say(rt, b"BT(9)", bomb(9))?;
+    say(rt, b"BT(10)", bomb(10))
 }
 
-fn clog_rows(kind: u8, first: usize, a: &[u8], b: &[u8], c: &[u8])
+fn clog_rows(
+    rt: &impl Print,
+    kind: u8,
+    first: usize,
+    a: &[u8],
+    b: &[u8],
+    c: &[u8],
+) -> io::Result<()>
     requires { first ≤ 28 }
 {
-    say(a, clogging(kind, first));
-    say(b, clogging(kind, first + 1));
-    say(c, clogging(kind, first + 2));
+    say(rt, a, clogging(kind, first))?;
+    say(rt, b, clogging(kind, first + 1))?;
+    say(rt, c, clogging(kind, first + 2))
 }
 
-fn main() {
-    square_rows();
-    cube_rows();
-    bomb_rows();
-    clog_rows(CLOGS, 4, b"BTC(4)", b"BTC(5)", b"BTC(6)");
-    clog_rows(CLOGS, 7, b"BTC(7)", b"BTC(8)", b"BTC(9)");
-    clog_rows(MAY_CLOG, 4, b"BTUC(4)", b"BTUC(5)", b"BTUC(6)");
-    clog_rows(MAY_CLOG, 7, b"BTUC(7)", b"BTUC(8)", b"BTUC(9)");
+fn main(rt: HostRuntime) -> io::Result<()> {
+    square_rows(&rt)?;
+    cube_rows(&rt)?;
+    bomb_rows(&rt)?;
+    clog_rows(&rt, CLOGS, 4, b"BTC(4)", b"BTC(5)", b"BTC(6)")?;
+    clog_rows(&rt, CLOGS, 7, b"BTC(7)", b"BTC(8)", b"BTC(9)")?;
+    clog_rows(&rt, MAY_CLOG, 4, b"BTUC(4)", b"BTUC(5)", b"BTUC(6)")?;
+    clog_rows(&rt, MAY_CLOG, 7, b"BTUC(7)", b"BTUC(8)", b"BTUC(9)")
 }
