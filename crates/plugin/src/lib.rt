@@ -1,6 +1,7 @@
 // The functions that `plugin_c` hands to C and Rust. Each calls a function of the libraries, takes its answer apart, and stores the answer's numbers in an array that
 // the caller lends. Nothing is asked of what a caller's buffers hold: bad input gets a refusal.
 #![tactic(auto)]
+
 ghost use Rattle.std.specs.Prelude.{◌≡◌, length};
 ghost use Rattle.sheet.specs.Sheet.{sheet_with};
 ghost use Rattle.sheet.specs.Answers.{reading};
@@ -102,12 +103,7 @@ pub fn potuchlan_write(
 }
 
 // Where the bytes of a following set stand in the sheet: offset and length, both 0 where the command or the state is missing or the sheet is refused.
-pub fn potuchlan_following(
-    sheet: &[u8],
-    command: usize,
-    state: usize,
-    answer: &mut [u64; 2],
-)
+pub fn potuchlan_following(sheet: &[u8], command: usize, state: usize, answer: &mut [u64; 2])
     ensures { answer.new ≡ following_numbers sheet.now command state }
 {
     let set = shown::following_span(sheet, command, state);
@@ -129,12 +125,7 @@ pub fn potuchlan_better(sheet: &[u8], first: &[u8], second: &[u8]) -> u8
 }
 
 // Searches for the shortest plan over a store that is lent: number (0 for a plan, 255 for no plan), place, count, length.
-pub fn potuchlan_search(
-    sheet: &[u8],
-    store: &mut [Node],
-    plan: &mut [u8],
-    answer: &mut [u64; 4],
-)
+pub fn potuchlan_search(sheet: &[u8], store: &mut [Node], plan: &mut [u8], answer: &mut [u64; 4])
     ensures { SearchedInto sheet.now store.old store.new plan.old plan.new answer.new }
 {
     let a = search::search(sheet, store, plan);

@@ -1,7 +1,6 @@
 -- `plugin::potuchlan_read` meets its contract: the numbers are those of the reading.
 use mathlib.Core.Path.{ap, ◌∙◌}
 use Rattle.sheet.specs.Answers.{values_of as reading_numbers}
-use borrow.Author.Rules.{rules}
 use Rattle.plugin.proofs.potuchlan_read.Goals as goal
 
 pub returns : goal.returns
