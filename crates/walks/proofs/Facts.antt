@@ -1,4 +1,4 @@
--- The names of plain facts that the crates with walks use, passed on from where they stand: equations, lists, numbers, and what a test tells.
+-- The names of plain facts that a walk uses, passed on from where they stand: equations, lists, numbers, and what a test tells.
 pub use mathlib.Core.Path.{refl, ◌≡◌, ap, sym, ◌∙◌, subst}
 pub use mathlib.Core.Logic.{◌⊎◌, inl, inr, ◌≢◌}
 pub use mathlib.Core.Bool.{false}

@@ -1,2 +1,2 @@
-// The steps by which a function is walked by hand, over references to structs too, and the plain facts that other crates cite: proofs only.
+// The steps by which a function is walked by hand, over references to structs too, and the plain facts that a walk cites: proofs only.
 #![tactic(auto)]
