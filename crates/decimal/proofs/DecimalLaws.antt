@@ -10,6 +10,8 @@ use native.Mathlib.Omega.{arith}
 use lib.Dec.{ltb}
 use lib.ListN.{length, get_or, length-append, get_or-append}
 use borrow.Author.Tests.{lt-ltb, le-ltb, ltb-true, ltb-false}
+use Rattle.std.specs.Prelude.{Option, Some, None, IfSome, IfNone}
+use Rattle.std.specs.Option.{unwrap_or}
 use Rattle.decimal.specs.Decimal.{digit, spelled, decimal, read_on, value}
 
 -- below ten, or not
@@ -72,6 +74,25 @@ length_below (suc k) n h = below_ten n (λ t. omega (arith, length_small n t)) (
 
 pub twenty : (n : ℕ) → n < 2 ^ 64 → length (decimal n) ≤ 20
 twenty n h = length_below 19 n (omega (arith, h))
+
+ten-power : (k : ℕ) → 0 < 10 ^ k
+ten-power zero = omega arith
+ten-power (suc k) = omega (arith, pow-suc 10 k, ten-power k)
+
+-- a number from 10 ^ k on has more than k digits
+length_above : (k n : ℕ) → 10 ^ k ≤ n → k < length (decimal n)
+length_above zero n h = length_some n
+length_above (suc k) n h =
+    let p = pow-suc 10 k in
+    below_ten n (λ t. absurd (omega (arith, h, p, t, ten-power k))) (λ t. omega (arith, length_large n t, length_above k (n / 10) (omega (arith, h, p))))
+
+length_between : (k n : ℕ) → 10 ^ k ≤ n → n < 10 * 10 ^ k → length (decimal n) ≡ k + 1
+length_between k n l h = omega (arith, length_above k n l, length_below k n (omega (arith, h, pow-suc 10 k)))
+
+-- one more than the logarithm
+pub length-log : (n : ℕ) (o : Option ℕ) → IfNone o (n ≡ 0) → IfSome o (λ k. 10 ^ k ≤ n) → IfSome o (λ k. n < 10 * 10 ^ k) → unwrap_or o 0 + 1 ≡ length (decimal n)
+length-log n None z l h = omega (arith, length_small n (omega (arith, z)))
+length-log n (Some k) z l h = omega (arith, length_between k n l h)
 
 -- ---- what the digits stand for
 

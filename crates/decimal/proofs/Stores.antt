@@ -2,11 +2,10 @@
 -- The idea: two runs of stores, the second where the first ends, are one run, and a run's last byte may be stored first.
 use mathlib.Core.Path.{◌≡◌, ap, ap₂, ◌∙◌}
 use mathlib.Core.List.{List, [], ◌∷◌, ◌++◌}
-use Prim.Native.Nat.{ℕ, suc, ◌+◌, ◌<◌}
-use native.Mathlib.Numerals.{add-one}
+use Prim.Native.Nat.{ℕ, suc, ◌+◌}
 use native.Mathlib.Omega.{arith}
-use lib.ListN.{length, get_or, take, set}
-use lib.Seq.{sets, set_comm, take-suc}
+use lib.ListN.{length, set}
+use lib.Seq.{sets, set_comm}
 use Rattle.meaning.proofs.Places.{sets-append}
 
 -- a run that goes on where another ends
@@ -19,7 +18,3 @@ sets_last l i [] x = ap (λ (k : ℕ). set l k x) (omega arith)
 sets_last l i (y ∷ a) x =
     ap (λ (m : List ℕ). sets m (suc i) a) (set_comm l (i + suc (length a)) i x y (λ e. omega (arith, e)) ∙ ap (λ (k : ℕ). set (set l i y) k x) (omega arith))
     ∙ sets_last (set l i y) (suc i) a x
-
--- one element more
-pub take_next : (xs : List ℕ) (i : ℕ) → i < length xs → take (i + 1) xs ≡ take i xs ++ (get_or xs i 0 ∷ [])
-take_next xs i h = ap (λ (k : ℕ). take k xs) (add-one i) ∙ take-suc xs i 0 h

@@ -1,70 +1,71 @@
-// Numbers in decimal as bytes in a lent buffer: a number alone, a field (a blank and a number), and fields one after another.
+// Numbers in decimal as bytes in a lent buffer: a number alone, a field (a blank and a number), and fields one after another. Kept by hand for the reason that
+// `line` gives.
 #![tactic(auto)]
 
-ghost use Rattle.std.specs.Prelude.{◌≡◌, ◌∷◌, ◌+◌, ◌≤◌, length};
+ghost use Rattle.std.specs.Prelude.{◌≡◌, ℕ, List, ◌∷◌, ◌+◌, ◌≤◌, length, map};
 ghost use Rattle.std.proofs.lemmas.List.Edits.{sets as stored};
 ghost use Rattle.decimal.specs.Decimal.{decimal};
 ghost use Rattle.decimal.specs.Fields.{blank, spaced, capped};
+ghost use Rattle.std.proofs.lemmas.List.{map-id};
+ghost use Rattle.std.proofs.Common.{sym};
 
-const BLANK: u8 = 32;
+const BLANK: u8 = b' ';
 
-const LARGEST: usize = 18446744073709551615;
+// What is printed as a field: a number of 64 bits, or a command, which is a byte.
+pub trait Number: Copy + Into<u64> {
+    // The number that a field prints for it.
+    ghost value: { Self → ℕ };
 
-// A byte as a number.
-fn wide(x: u8) -> u64
-    ensures { result ≡ x }
-{
-    x as u64
+    // The numbers of a list of them: of numbers and of commands the list itself.
+    ghost values: { List Self → List ℕ };
+
+    ghost values_in_turn: { (ns : List Self) → values ns ≡ map value ns };
+
+    // It converts to that number.
+    ghost converts_to_value: { (n : Self) (m : ℕ) → Self.converts n m → m ≡ value n };
+}
+
+impl Number for u64 {
+    ghost value = { λ n. n };
+
+    ghost values = { λ ns. ns };
+
+    ghost values_in_turn = { λ ns. sym (map-id ns) };
+
+    ghost converts_to_value = { λ n m e. e };
+}
+
+impl Number for u8 {
+    ghost value = { λ n. n };
+
+    ghost values = { λ ns. ns };
+
+    ghost values_in_turn = { λ ns. sym (map-id ns) };
+
+    ghost converts_to_value = { λ n m e. e };
 }
 
 // How many digits a number has.
 fn digits(n: u64) -> usize
     ensures { result ≡ length (decimal n) }
 {
-    let mut count = 1;
-    let mut rest = n;
-    while 10 <= rest {
-        rest /= 10;
-        count += 1;
-    }
-    count
-}
-
-// A sum of two numbers of bytes, and the largest number where the sum is above it.
-pub fn plus(a: usize, b: usize) -> usize
-    ensures { result ≡ capped (a + b) }
-{
-    if LARGEST - a < b { LARGEST } else { a + b }
+    n.checked_ilog10().unwrap_or(0) as usize + 1
 }
 
 // Where a field ends that starts at a place.
 fn after_field(at: usize, n: u64) -> usize
     ensures { result ≡ capped (at + length (blank ∷ decimal n)) }
 {
-    plus(plus(at, 1), digits(n))
+    at.saturating_add(1).saturating_add(digits(n))
 }
 
-// Where some fields end, and where some commands do.
-pub fn after_fields(at: usize, fields: &[u64]) -> usize
-    ensures { result ≡ capped (at + length (spaced fields.now)) }
+// Where some fields end.
+pub fn after_fields<N: Number>(at: usize, fields: &[N]) -> usize
+    ensures { result ≡ capped (at + length (spaced (N.values fields.now))) }
 {
     let mut end = at;
-    let mut i = 0;
-    while i < fields.len() {
-        end = after_field(end, fields[i]);
-        i += 1;
-    }
-    end
-}
-
-pub fn after_commands(at: usize, commands: &[u8]) -> usize
-    ensures { result ≡ capped (at + length (spaced commands.now)) }
-{
-    let mut end = at;
-    let mut i = 0;
-    while i < commands.len() {
-        end = after_field(end, wide(commands[i]));
-        i += 1;
+    for field in fields {
+        end = after_field(end, (*field).into());
     }
     end
 }
@@ -76,14 +77,11 @@ fn put_number(out: &mut [u8], at: usize, n: u64) -> usize
     ensures out_after { out.new ≡ stored out.old at (decimal n) }
 {
     let end = at + digits(n);
-    let mut i = end - 1;
     let mut rest = n;
-    while 10 <= rest {
-        out[i] = 48 + (rest % 10) as u8;
+    for i in (at..end).rev() {
+        out[i] = b'0' + (rest % 10) as u8;
         rest /= 10;
-        i -= 1;
     }
-    out[i] = 48 + rest as u8;
     end
 }
 
@@ -97,31 +95,15 @@ fn put_field(out: &mut [u8], at: usize, n: u64) -> usize
     put_number(out, at + 1, n)
 }
 
-// Some fields one after another, and some commands.
-pub fn put_fields(out: &mut [u8], at: usize, fields: &[u64]) -> usize
-    requires { at + length (spaced fields.now) ≤ length out.old }
-    ensures value { result ≡ at + length (spaced fields.now) }
-    ensures out_after { out.new ≡ stored out.old at (spaced fields.now) }
+// Some fields one after another.
+pub fn put_fields<N: Number>(out: &mut [u8], at: usize, fields: &[N]) -> usize
+    requires { at + length (spaced (N.values fields.now)) ≤ length out.old }
+    ensures value { result ≡ at + length (spaced (N.values fields.now)) }
+    ensures out_after { out.new ≡ stored out.old at (spaced (N.values fields.now)) }
 {
     let mut end = at;
-    let mut i = 0;
-    while i < fields.len() {
-        end = put_field(out, end, fields[i]);
-        i += 1;
-    }
-    end
-}
-
-pub fn put_commands(out: &mut [u8], at: usize, commands: &[u8]) -> usize
-    requires { at + length (spaced commands.now) ≤ length out.old }
-    ensures value { result ≡ at + length (spaced commands.now) }
-    ensures out_after { out.new ≡ stored out.old at (spaced commands.now) }
-{
-    let mut end = at;
-    let mut i = 0;
-    while i < commands.len() {
-        end = put_field(out, end, wide(commands[i]));
-        i += 1;
+    for field in fields {
+        end = put_field(out, end, (*field).into());
     }
     end
 }

@@ -20,12 +20,16 @@ use Rattle.meaning.specs.Enumeration.{listing, root}
 use Rattle.meaning.specs.Progress.{Progress}
 use Rattle.meaning.proofs.Places.{at_fun, at_lt}
 use Rattle.meaning.proofs.ProgressLaws.{progress-none, progress-seen, progress_grow, new_place, not_all, progress-turn, progress_end, progress_start, place_0}
-use Rattle.sets.specs.Words.{Value, set_of, IsValue}
+use Rattle.sets.specs.Words.{Value, set_of}
+use Rattle.sets.proofs.Values.{own_value}
 use Rattle.store.specs.declared.Node.{Node}
 use Rattle.store.specs.Nodes.{node, nothing, node_at, set_at, meant}
 use Rattle.explore.specs.Ready.{Ready}
-use Rattle.explore.specs.Turns.{ends_plan, ends_no_plan, ends_no_room, goes_on, turn, Old, not_sendable, seen, Fresh, Tested, Stored, Kept, Going, LastInside, AllOutside, MoreThanRoom, Ended, Turned, Explored}
-use Rattle.explore.specs.declared.Turn.{Turn}
+use Rattle.explore.specs.Turns.{ended_as, Old, not_sendable, seen, Fresh, Tested, Stored, Kept, Going, GoneOn, LastInside, AllOutside, MoreThanRoom, Ended, Turned, Explored}
+use Rattle.explore.specs.declared.Ending.TheVariants.{Plan, NoPlan, NoRoom}
+use Rattle.explore.specs.declared.End.{End}
+use Rattle.std.specs.declared.ops.ControlFlow.{ControlFlow}
+use Rattle.std.specs.declared.ops.ControlFlow.TheVariants.{Continue, Break}
 
 -- ---- the later places
 
@@ -57,9 +61,9 @@ places-more P {count} l {l'} n f h e new k b = subst (λ (m : List Node). P k (n
     last : P count (node_at (set l count n) count)
     last = subst (P count) (sym (get_or-set_same l count n nothing h)) new
 
-stored_more : {D : Domain} {x count : ℕ} {l l' : List Node} (n : Node) → Stored D x count l → count < length l → l' ≡ set l count n → IsValue n.set → Holds (listing D x) count (meant n) → Stored D x (count + 1) l'
-stored_more {D} {x} {l = l} n s h e value new = record {
-  values = places-more (λ k (m : Node). IsValue m.set) l n s.values h e value;
+stored_more : {D : Domain} {x count : ℕ} {l l' : List Node} (n : Node) → Stored D x count l → count < length l → l' ≡ set l count n → Holds (listing D x) count (meant n) → Stored D x (count + 1) l'
+stored_more {D} {x} {l = l} n s h e new = record {
+  values = λ k h'. own_value _;
   holds = places-more (λ k (m : Node). Holds (listing D x) k (meant m)) l n s.holds h e new;
 }
 
@@ -78,15 +82,19 @@ start_is {D} {x} r h =
 going_on : {D : Domain} {x g room i a j b count : ℕ} {l : List Node} → Going D x g room i a count l → Progress D x count j b → Going D x g room j b count l
 going_on r p = record { ready = r.ready; progress = p; stored = r.stored; none_inside = r.none_inside; fits = r.fits; there = r.there; most = r.most }
 
-module _ {D : Domain} {x g room : ℕ} {t : Turn} {l : List Node} (r : Ready D x) (s : Stored D x t.count l) (f : t.count ≤ room) (h : room ≤ length l) where
-  ended-plan : t.kind ≡ ends_plan → LastInside D x g t.count → Ended D x g room t l
-  ended-plan z v = record { ready = r; stored = s; fits = f; there = h; kinds = omega (arith, z); plan = λ p. v; no_plan = λ p. absurd (omega (arith, p, z)); no_room = λ p. absurd (omega (arith, p, z)) }
+module _ {D : Domain} {x g room count : ℕ} {l : List Node} (r : Ready D x) (s : Stored D x count l) (f : count ≤ room) (h : room ≤ length l) where
+  ended-plan : LastInside D x g count → Ended D x g room (ended_as Plan count) l
+  ended-plan v = record { ready = r; stored = s; fits = f; there = h; plan = λ p. v; no_plan = λ p. absurd (cc); no_room = λ p. absurd (cc) }
 
-  ended-none : t.kind ≡ ends_no_plan → AllOutside D x g t.count → Ended D x g room t l
-  ended-none z v = record { ready = r; stored = s; fits = f; there = h; kinds = omega (arith, z); plan = λ p. absurd (omega (arith, p, z)); no_plan = λ p. v; no_room = λ p. absurd (omega (arith, p, z)) }
+  ended-none : AllOutside D x g count → Ended D x g room (ended_as NoPlan count) l
+  ended-none v = record { ready = r; stored = s; fits = f; there = h; plan = λ p. absurd (cc); no_plan = λ p. v; no_room = λ p. absurd (cc) }
 
-  ended_full : t.kind ≡ ends_no_room → MoreThanRoom D x g room t.count → Ended D x g room t l
-  ended_full z v = record { ready = r; stored = s; fits = f; there = h; kinds = omega (arith, z); plan = λ p. absurd (omega (arith, p, z)); no_plan = λ p. absurd (omega (arith, p, z)); no_room = λ p. v }
+  ended_full : MoreThanRoom D x g room count → Ended D x g room (ended_as NoRoom count) l
+  ended_full v = record { ready = r; stored = s; fits = f; there = h; plan = λ p. absurd (cc); no_plan = λ p. absurd (cc); no_room = λ p. v }
+
+-- where nothing more is stored
+pub at_first : {D : Domain} {x g room i a count : ℕ} {l : List Node} → Going D x g room i a count l → GoneOn D x g room i a count l l count
+at_first {count = count} {l} r = record { kept = kept_all count l; grown = omega arith; going = r }
 
 -- ---- one try
 
@@ -105,13 +113,8 @@ module _ {D : Domain} {x g room i a count : ℕ} {l : List Node} (r : Going D x 
           let s = r.stored.holds k b in
           progress-seen D r.ready.well_formed x r.ready.start r.progress h here.at_place (subst (λ (z : ℕ). step D z a ≡ some y) here.its_set q) b s.at_place (sym s.its_set ∙ e)
 
-  pub tried-old : {t : Turn} → Old D l count i a → t ≡ turn goes_on count → Turned D x g room i (a + 1) count l l t
-  tried-old {t} o e = subst (Turned D x g room i (a + 1) count l l) (sym e) record {
-    kept = kept_all count l;
-    grown = omega arith;
-    on = λ z. old-on o;
-    ended = λ z. absurd (z refl);
-  }
+  pub tried-old : Old D l count i a → GoneOn D x g room i (a + 1) count l l count
+  tried-old o = at_first (old-on o)
 
   module _ {z : Value} (f : Fresh D l count i a z) where
     abbrev y : ℕ
@@ -130,12 +133,11 @@ module _ {D : Domain} {x g room i a count : ℕ} {l : List Node} (r : Going D x 
     new_at = new_place D r.ready.well_formed x r.ready.start r.progress h here.at_place taken fresh
 
     -- there is no place for it
-    pub tried_full : {t : Turn} → count ≡ room → t ≡ turn ends_no_room count → Turned D x g room i (a + 1) count l l t
-    tried_full {t} q e = subst (Turned D x g room i (a + 1) count l l) (sym e) record {
+    pub tried_full : count ≡ room → Explored D x g room count l l (ended_as NoRoom count)
+    tried_full q = record {
       kept = kept_all count l;
       grown = omega arith;
-      on = λ z. absurd (omega (arith, z));
-      ended = λ z. ended_full r.ready r.stored r.fits r.there refl (record {
+      ended = ended_full r.ready r.stored r.fits r.there (record {
         is_full = q;
         more = subst (λ (n : ℕ). n < length (listing D x)) q (not_all D r.ready.well_formed x r.ready.start r.progress h here.at_place taken fresh);
         none_inside = outside;
@@ -148,7 +150,7 @@ module _ {D : Domain} {x g room i a count : ℕ} {l : List Node} (r : Going D x 
     -- it is stored
     module _ (b : count < room) {l' : List Node} (e : l' ≡ set l count (node z i a)) where
       more : Stored D x (count + 1) l'
-      more = stored_more (node z i a) r.stored (omega (arith, b, r.there)) e f.value (record {
+      more = stored_more (node z i a) r.stored (omega (arith, b, r.there)) e (record {
         entry = record { set = y; seq = then here.entry.seq a };
         at_place = new_at;
         its_set = refl;
@@ -172,148 +174,88 @@ module _ {D : Domain} {x g room i a count : ℕ} {l : List Node} (r : Going D x 
         most = r.most;
       }
 
-      new_ended : {t : Turn} → t.kind ≡ ends_plan → t.count ≡ count + 1 → y ⊆ g → Ended D x g room t l'
-      new_ended {t} z c v = ended-plan r.ready (subst (λ (n : ℕ). Stored D x n l') (sym c) more) (omega (arith, b, c)) (omega (arith, r.there, as_long)) z (record {
+      new_ended : y ⊆ g → Ended D x g room (ended_as Plan (count + 1)) l'
+      new_ended v = ended-plan r.ready more (omega (arith, b)) (omega (arith, r.there, as_long)) (record {
         place = count;
         entry = record { set = y; seq = then here.entry.seq a };
-        is_last = c;
+        is_last = refl;
         first = record { at_place = new_at; inside = v; none_before = r.none_inside };
       })
 
-      pub tried_new : {t : Turn} → Tested y g (count + 1) t → Turned D x g room i (a + 1) count l l' t
-      tried_new {t} u = record {
-        kept = subst (λ (n : ℕ). Kept n l l') (sym u.count_is) (subst (λ (m : List Node). Kept (count + 1) l m) (sym e) (kept_put l count (node z i a)));
-        grown = omega (arith, u.count_is);
-        on = λ z. ⊎_elim (λ c. absurd (omega (arith, c.0, z))) (λ c. subst (λ (n : ℕ). Going D x g room i (a + 1) n l') (sym u.count_is) (new_on c.1)) u.case;
-        ended = λ z. ⊎_elim (λ c. new_ended c.0 u.count_is c.1) (λ c. absurd (z c.0)) u.case;
-      }
+      kept_new : Kept (count + 1) l l'
+      kept_new = subst (λ (m : List Node). Kept (count + 1) l m) (sym e) (kept_put l count (node z i a))
 
--- the start that place 0 names is the one that the search is from
-pub turned_from : {D : Domain} {y x g room i a first : ℕ} {before after : List Node} {t : Turn} → y ≡ x → Turned D y g room i a first before after t → Turned D x g room i a first before after t
-turned_from {D} {g = g} {room} {i} {a} {first} {before} {after} {t} e u = subst (λ (z : ℕ). Turned D z g room i a first before after t) e u
+      pub tried_new : (t : ControlFlow End ℕ) → Tested y g (count + 1) t → Turned D x g room i (a + 1) count l l' t
+      tried_new (Continue c) u = rw u.0 (record { kept = kept_new; grown = omega arith; going = new_on u.1 })
+      tried_new (Break o) u = rw u.0 (record { kept = kept_new; grown = omega arith; ended = new_ended u.1 })
 
-pub going_from : {D : Domain} {y x g room i a count : ℕ} {l : List Node} → y ≡ x → Going D x g room i a count l → Going D y g room i a count l
-going_from {D} {g = g} {room} {i} {a} {count} {l} e u = subst (λ (z : ℕ). Going D z g room i a count l) (sym e) u
+-- ---- from one turn to the next
 
-pub explored_from : {D : Domain} {y x g room first : ℕ} {before after : List Node} {t : Turn} → y ≡ x → Explored D y g room first before after t → Explored D x g room first before after t
-explored_from {D} {g = g} {room} {first} {before} {after} {t} e u = subst (λ (z : ℕ). Explored D z g room first before after t) e u
+-- a turn takes place 0 of its store for the start, which is the one that the search is from
+pub asks : {D : Domain} {x g room i a count : ℕ} {l : List Node} → Going D x g room i a count l → 0 < count → Going D (set_at l 0) g room i a count l
+asks {D} {g = g} {room} {i} {a} {count} {l} r h = subst (λ (z : ℕ). Going D z g room i a count l) (sym (start_is r h)) r
 
--- the room by another number that is the same
-pub explored_in : {D : Domain} {x g c d first : ℕ} {before after : List Node} {t : Turn} → c ≡ d → Explored D x g c first before after t → Explored D x g d first before after t
-explored_in {D} {x} {g} {first = first} {before} {after} {t} e u = subst (λ (z : ℕ). Explored D x g z first before after t) e u
-
--- ---- all commands of a place
-
--- command a is to be tried next, and there were `first` places at the start
-pub record Expanding (D : Domain) (x g room i first : ℕ) (before after : List Node) (count a : ℕ) : Type 0 where
-  pub going : Going D x g room i a count after
-  pub kept : Kept count before after
-  pub grown : first ≤ count
-  pub placed : i < count
-  pub at_most : a ≤ D.commands
-
-pub expanding_start : {D : Domain} {x g room i first : ℕ} {l : List Node} → Going D x g room i 0 first l → i < first → Expanding D x g room i first l l first 0
-expanding_start {first = first} {l} r h = record { going = r; kept = kept_all first l; grown = omega arith; placed = h; at_most = omega arith }
-
-module _ {D : Domain} {x g room i first : ℕ} {before after : List Node} {count a : ℕ} (r : Expanding D x g room i first before after count a) where
-  -- what a try asks, by the start that place 0 names
-  pub expanding_asks : Going D (set_at after 0) g room i a count after
-  expanding_asks = going_from (start_is r.going (omega (arith, r.placed))) r.going
-
-  module _ {after' : List Node} {t : Turn} (u : Turned D (set_at after 0) g room i (a + 1) count after after' t) where
-    same : Turned D x g room i (a + 1) count after after' t
-    same = turned_from (start_is r.going (omega (arith, r.placed))) u
-
-    pub expanding_on : a < D.commands → t.kind ≡ goes_on → Expanding D x g room i first before after' t.count (a + 1)
-    expanding_on h z = record {
-      going = same.on z;
-      kept = kept_on r.kept same.kept same.grown;
-      grown = omega (arith, r.grown, same.grown);
-      placed = omega (arith, r.placed, same.grown);
-      at_most = omega (arith, h);
-    }
-
-    pub expanding_ended : t.kind ≢ goes_on → Turned D x g room (i + 1) 0 first before after' t
-    expanding_ended z = record {
-      kept = kept_on r.kept same.kept same.grown;
-      grown = omega (arith, r.grown, same.grown);
-      on = λ e. absurd (z e);
-      ended = λ e. same.ended z;
-    }
-
-  pub expanded : {t : Turn} → D.commands ≤ a → t ≡ turn goes_on count → Turned D x g room (i + 1) 0 first before after t
-  expanded {t} h e = subst (Turned D x g room (i + 1) 0 first before after) (sym e) record {
-    kept = r.kept;
-    grown = r.grown;
-    on = λ z. going_on r.going (progress-turn D r.going.ready.well_formed x r.going.ready.start (subst (Progress D x count i) (omega (arith, h, r.at_most)) r.going.progress));
-    ended = λ z. absurd (z refl);
+-- so what it gives goes on with what was before it
+module _ {D : Domain} {x g room i a first : ℕ} {before mid after : List Node} {count : ℕ} (r : GoneOn D x g room i a first before mid count) (h : 0 < count) where
+  pub and_goes_on : {j b c : ℕ} → GoneOn D (set_at mid 0) g room j b count mid after c → GoneOn D x g room j b first before after c
+  and_goes_on {j} {b} {c} u = record {
+    kept = kept_on r.kept u.kept u.grown;
+    grown = omega (arith, r.grown, u.grown);
+    going = subst (λ (z : ℕ). Going D z g room j b c after) (start_is r.going h) u.going;
   }
 
--- ---- all places
-
--- place i is to be expanded next
-pub record Running (D : Domain) (x g room : ℕ) (before after : List Node) (count i : ℕ) : Type 0 where
-  pub going : Going D x g room i 0 count after
-  pub kept : Kept count before after
-  pub grown : 1 ≤ count
-
-pub running_start : {D : Domain} {x g room : ℕ} {l : List Node} → Going D x g room 0 0 1 l → Running D x g room l l 1 0
-running_start {l = l} r = record { going = r; kept = kept_all 1 l; grown = omega arith }
-
-module _ {D : Domain} {x g room : ℕ} {before after : List Node} {count i : ℕ} (r : Running D x g room before after count i) where
-  pub running_asks : Going D (set_at after 0) g room i 0 count after
-  running_asks = going_from (start_is r.going r.grown) r.going
-
-  module _ {after' : List Node} {t : Turn} (u : Turned D (set_at after 0) g room (i + 1) 0 count after after' t) where
-    also : Turned D x g room (i + 1) 0 count after after' t
-    also = turned_from (start_is r.going r.grown) u
-
-    pub running_on : t.kind ≡ goes_on → Running D x g room before after' t.count (i + 1)
-    running_on z = record { going = also.on z; kept = kept_on r.kept also.kept also.grown; grown = omega (arith, r.grown, also.grown) }
-
-    pub running_ended : t.kind ≢ goes_on → Explored D x g room 1 before after' t
-    running_ended z = record { kept = kept_on r.kept also.kept also.grown; grown = omega (arith, r.grown, also.grown); ended = also.ended z }
-
-  -- every place is expanded, so the store holds the whole listing
-  pub ran : {t : Turn} → count ≤ i → t ≡ turn ends_no_plan count → Explored D x g room 1 before after t
-  ran {t} h e = subst (Explored D x g room 1 before after) (sym e) record {
-    kept = r.kept;
-    grown = r.grown;
-    ended = ended-none r.going.ready r.going.stored r.going.fits r.going.there refl
-        (record { are_all = all; none_inside = λ k f u. r.going.none_inside k f (omega (arith, at_lt u, all)) u });
+  pub and_ends : {o : End} → Explored D (set_at mid 0) g room count mid after o → Explored D x g room first before after o
+  and_ends {o} u = record {
+    kept = kept_on r.kept u.kept u.grown;
+    grown = omega (arith, r.grown, u.grown);
+    ended = subst (λ (z : ℕ). Ended D z g room o after) (start_is r.going h) u.ended;
   }
-    where
-      all : count ≡ length (listing D x)
-      all = progress_end D r.going.ready.well_formed x r.going.ready.start r.going.progress h
+
+-- after the last command of a place the next place is to be expanded
+pub expanded : {D : Domain} {x g room i a first : ℕ} {before after : List Node} {count : ℕ} → GoneOn D x g room i a first before after count → a ≡ D.commands → GoneOn D x g room (i + 1) 0 first before after count
+expanded {D} {x} {i = i} {count = count} r e = record {
+  kept = r.kept;
+  grown = r.grown;
+  going = going_on r.going (progress-turn D r.going.ready.well_formed x r.going.ready.start (subst (Progress D x count i) e r.going.progress));
+}
+
+-- after the last place the store holds the whole listing
+pub ran : {D : Domain} {x g room i first : ℕ} {before after : List Node} {count : ℕ} → GoneOn D x g room i 0 first before after count → count ≤ i → Explored D x g room first before after (ended_as NoPlan count)
+ran {D} {x} {count = count} r h = record {
+  kept = r.kept;
+  grown = r.grown;
+  ended = ended-none r.going.ready r.going.stored r.going.fits r.going.there
+      (record { are_all = all; none_inside = λ k f u. r.going.none_inside k f (omega (arith, at_lt u, all)) u });
+}
+  where
+    all : count ≡ length (listing D x)
+    all = progress_end D r.going.ready.well_formed x r.going.ready.start r.going.progress h
 
 -- ---- the start
 
-module _ {D : Domain} {x : ℕ} (r : Ready D x) (g room : ℕ) (l : List Node) (there : room ≤ length l) where
-  at_0 : At (listing D x) 0 (root x)
-  at_0 = place_0 D r.well_formed x r.start
+module _ {D : Domain} (z : Value) (r : Ready D (set_of z)) (g room : ℕ) (l : List Node) (there : room ≤ length l) where
+  at_0 : At (listing D (set_of z)) 0 (root (set_of z))
+  at_0 = place_0 D r.well_formed (set_of z) r.start
 
   -- there is no place at all
-  pub no_place : {t : Turn} → room ≡ 0 → t ≡ turn ends_no_room 0 → Explored D x g room 0 l l t
-  no_place {t} z e = subst (Explored D x g room 0 l l) (sym e) record {
+  pub no_place : room ≡ 0 → Explored D (set_of z) g room 0 l l (ended_as NoRoom 0)
+  no_place e = record {
     kept = kept_all 0 l;
     grown = omega arith;
-    ended = ended_full r stored-none (omega arith) there refl
-        (record { is_full = sym z; more = omega (arith, at_lt at_0, z); none_inside = λ k f u. omega (arith, z) });
+    ended = ended_full r stored-none (omega arith) there
+        (record { is_full = sym e; more = omega (arith, at_lt at_0, e); none_inside = λ k f u. omega (arith, e) });
   }
 
   -- the initial set is stored at place 0
-  module _ (some : 0 < room) {l' : List Node} (z : Value) (is : set_of z ≡ x) (value : IsValue z) (e : l' ≡ set l 0 (node z 0 255)) {t : Turn} (tested : Tested (set_of z) g 1 t) where
-    u : Tested x g 1 t
-    u = subst (λ (y : ℕ). Tested y g 1 t) is tested
-
+  module _ (some : room ≢ 0) {l' : List Node} (e : l' ≡ set l 0 (node z 0 255)) where
     as_long₀ : length l' ≡ length l
     as_long₀ = ap length e ∙ length-set l 0 (node z 0 255)
 
-    stored_1 : Stored D x 1 l'
-    stored_1 = stored_more {count = 0} {l = l} (node z 0 255) stored-none (omega (arith, some, there)) e value (record {
-      entry = root x;
+    stored_1 : Stored D (set_of z) 1 l'
+    stored_1 = stored_more {count = 0} {l = l} (node z 0 255) stored-none (omega (arith, some, there)) e (record {
+      entry = root (set_of z);
       at_place = at_0;
-      its_set = is;
+      its_set = refl;
       link = initial refl refl refl;
     })
 
@@ -321,39 +263,30 @@ module _ {D : Domain} {x : ℕ} (r : Ready D x) (g room : ℕ) (l : List Node) (
     kept_1 = subst (λ (m : List Node). Kept 1 l m) (sym e) (kept_put l 0 (node z 0 255))
 
     -- it is inside the goal
-    pub started_ended : t.kind ≢ goes_on → Explored D x g room 0 l l' t
-    started_ended z = ⊎_elim (λ c. go c.0 c.1) (λ c. absurd (z c.0)) u.case
-      where
-        go : t.kind ≡ ends_plan → x ⊆ g → Explored D x g room 0 l l' t
-        go q v = record {
-          kept = subst (λ (n : ℕ). Kept n l l') (sym u.count_is) kept_1;
-          grown = omega arith;
-          ended = ended-plan r (subst (λ (n : ℕ). Stored D x n l') (sym u.count_is) stored_1) (omega (arith, some, u.count_is)) (omega (arith, there, as_long₀)) q (record {
-            place = 0;
-            entry = root x;
-            is_last = u.count_is;
-            first = record { at_place = at_0; inside = v; none_before = λ j f h. absurd (not-suc-le-zero h) };
-          });
-        }
+    pub started_ended : {o : End} → (o ≡ ended_as Plan 1) × (set_of z ⊆ g) → Explored D (set_of z) g room 0 l l' o
+    started_ended v = rw v.0 (record {
+      kept = kept_1;
+      grown = omega arith;
+      ended = ended-plan r stored_1 (omega (arith, some)) (omega (arith, there, as_long₀)) (record {
+        place = 0;
+        entry = root (set_of z);
+        is_last = refl;
+        first = record { at_place = at_0; inside = v.1; none_before = λ j f h. absurd (not-suc-le-zero h) };
+      });
+    })
 
     -- it is not
-    pub started_on : room ≤ 65536 → t.kind ≡ goes_on → Going D x g room 0 0 1 l'
-    started_on most z = record {
-      ready = r;
-      progress = progress_start D r.well_formed x r.start;
-      stored = stored_1;
-      none_inside = λ j f h w v. ⊎_elim (λ c. absurd (omega (arith, c.0, z)))
-          (λ c. c.1 (subst (λ (q : Entry). q.set ⊆ g) (at_fun (subst (λ (k : ℕ). At (listing D x) k f) (lt-one h) w) at_0) v)) u.case;
-      fits = some;
-      there = omega (arith, there, as_long₀);
-      most = most;
+    pub started_on : room ≤ 65536 → ¬ (set_of z ⊆ g) → GoneOn D (set_of z) g room 0 0 0 l l' 1
+    started_on most out = record {
+      kept = kept_1;
+      grown = omega arith;
+      going = record {
+        ready = r;
+        progress = progress_start D r.well_formed (set_of z) r.start;
+        stored = stored_1;
+        none_inside = λ j f h w v. out (subst (λ (q : Entry). q.set ⊆ g) (at_fun (subst (λ (k : ℕ). At (listing D (set_of z)) k f) (lt-one h) w) at_0) v);
+        fits = omega (arith, some);
+        there = omega (arith, there, as_long₀);
+        most = most;
+      };
     }
-
-    pub started_asks : room ≤ 65536 → t.kind ≡ goes_on → Going D (set_at l' 0) g room 0 0 1 l'
-    started_asks most z = going_from (start_is (started_on most z) (omega arith)) (started_on most z)
-
-    -- and the run has ended
-    pub started_ran : room ≤ 65536 → t.kind ≡ goes_on → {l'' : List Node} {t' : Turn} → Explored D (set_at l' 0) g room 1 l' l'' t' → Explored D x g room 0 l l'' t'
-    started_ran most z v =
-        let w = explored_from (start_is (started_on most z) (omega arith)) v in
-        record { kept = kept_on kept_1 w.kept w.grown; grown = omega arith; ended = w.ended }

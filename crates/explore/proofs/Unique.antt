@@ -1,9 +1,8 @@
--- The contract of `explore` leaves one turn and one store. The idea: the listing is one, so the three ends exclude each other and each fixes the count; each
+-- The contract of `explore` leaves one end and one store. The idea: the listing is one, so the three ends exclude each other and each fixes the count; each
 -- counted place holds the value that stands for the listing's record, and the later places are as lent.
-use mathlib.Core.Path.{◌≡◌, sym, ap, ap₂, ◌∙◌}
+use mathlib.Core.Path.{◌≡◌, refl, sym, ap, ap₂, ◌∙◌}
 use mathlib.Core.List.{List, ◌++◌}
 use Prim.Native.Nat.{ℕ, ◌≤◌, ◌<◌}
-use native.Mathlib.Decide.{dec_le}
 use native.Mathlib.Omega.{arith}
 use lib.ListN.{length, take, drop, take-append-drop}
 use lib.Seq.{length-take-le}
@@ -19,31 +18,33 @@ use Rattle.meaning.proofs.Enumerated.{listing_correct}
 use Rattle.sets.specs.Words.{set_for}
 use Rattle.store.specs.declared.Node.{Node}
 use Rattle.store.specs.Nodes.{nothing, node_at, set_at, meant}
-use Rattle.explore.specs.Turns.{ends_plan, ends_no_plan, ends_no_room, LastInside, AllOutside, MoreThanRoom, Stored, Ended, Explored}
+use Rattle.explore.specs.Turns.{LastInside, AllOutside, MoreThanRoom, Stored, Ended, Explored}
 use Rattle.explore.specs.Ready.{Ready}
-use Rattle.explore.specs.declared.Turn.{Turn}
+use Rattle.explore.specs.declared.Ending.{Ending}
+use Rattle.explore.specs.declared.Ending.TheVariants.{Plan, NoPlan, NoRoom}
+use Rattle.explore.specs.declared.End.{End}
 
--- ---- the turn
+-- ---- the end
 
 -- how a search that has ended did
-data Case (D : Domain) (x g room : ℕ) (t : Turn) : Type 0 where
-  plan : t.kind ≡ ends_plan → LastInside D x g t.count → Case D x g room t
-  none : t.kind ≡ ends_no_plan → AllOutside D x g t.count → Case D x g room t
-  full : t.kind ≡ ends_no_room → MoreThanRoom D x g room t.count → Case D x g room t
+data Case (D : Domain) (x g room : ℕ) (e : End) : Type 0 where
+  plan : e.ending ≡ Plan → LastInside D x g e.count → Case D x g room e
+  none : e.ending ≡ NoPlan → AllOutside D x g e.count → Case D x g room e
+  full : e.ending ≡ NoRoom → MoreThanRoom D x g room e.count → Case D x g room e
 
-case : {D : Domain} {x g room : ℕ} {t : Turn} {l : List Node} → Ended D x g room t l → Case D x g room t
-case {D} {x} {g} {room} {t} u = go (dec_le t.kind 0) (dec_le t.kind 1)
+case : {D : Domain} {x g room : ℕ} {e : End} {l : List Node} → Ended D x g room e l → Case D x g room e
+case {D} {x} {g} {room} {e} u = go e.ending refl
   where
-    go : Dec (t.kind ≤ 0) → Dec (t.kind ≤ 1) → Case D x g room t
-    go (yes d) c = let e : t.kind ≡ ends_plan = omega arith in plan e (u.plan e)
-    go (no n) (yes d) = let e : t.kind ≡ ends_no_plan = omega arith in none e (u.no_plan e)
-    go (no n) (no m) = let e : t.kind ≡ ends_no_room = omega (arith, u.kinds) in full e (u.no_room e)
+    go : (n : Ending) → e.ending ≡ n → Case D x g room e
+    go Plan q = plan q (u.plan q)
+    go NoPlan q = none q (u.no_plan q)
+    go NoRoom q = full q (u.no_room q)
 
-turn_unique : {D : Domain} {x g room : ℕ} {a b : Turn} {s t : List Node} → Ended D x g room a s → Ended D x g room b t → a ≡ b
-turn_unique {D} {x} {g} {room} {a} {b} u v = go (case u) (case v)
+end_unique : {D : Domain} {x g room : ℕ} {a b : End} {s t : List Node} → Ended D x g room a s → Ended D x g room b t → a ≡ b
+end_unique {D} {x} {g} {room} {a} {b} u v = go (case u) (case v)
   where
-    both : a.kind ≡ b.kind → a.count ≡ b.count → a ≡ b
-    both e f = λ i. record { kind = e i; count = f i }
+    both : a.ending ≡ b.ending → a.count ≡ b.count → a ≡ b
+    both e f = λ i. record { ending = e i; count = f i }
 
     go : Case D x g room a → Case D x g room b → a ≡ b
     go (plan e p) (plan f q) = both (e ∙ sym f) (omega (arith, p.is_last, q.is_last, first-place g p.first q.first))
@@ -73,14 +74,14 @@ pub stored-distinct : {D : Domain} {x count : ℕ} {l : List Node} → Ready D x
 stored-distinct {D} {x} r s j k h i e =
     place_fun (step D) x (listing_correct D r.well_formed x r.start).prefix (s.holds j h).at_place (s.holds k i).at_place (sym (s.holds j h).its_set ∙ e ∙ (s.holds k i).its_set)
 
-pub explored_unique : {D : Domain} {x g room first : ℕ} {before s t : List Node} {a b : Turn} → Explored D x g room first before s a → Explored D x g room first before t b → (a ≡ b) × (s ≡ t)
-explored_unique {before = before} {s} {t} {a} {b} u v = (turns, sym (take-append-drop a.count s) ∙ ap₂ ◌++◌ firsts rests ∙ take-append-drop a.count t)
+pub explored_unique : {D : Domain} {x g room first : ℕ} {before s t : List Node} {a b : End} → Explored D x g room first before s a → Explored D x g room first before t b → (a ≡ b) × (s ≡ t)
+explored_unique {before = before} {s} {t} {a} {b} u v = (ends, sym (take-append-drop a.count s) ∙ ap₂ ◌++◌ firsts rests ∙ take-append-drop a.count t)
   where
-    turns : a ≡ b
-    turns = turn_unique u.ended v.ended
+    ends : a ≡ b
+    ends = end_unique u.ended v.ended
 
     counts : b.count ≡ a.count
-    counts = ap (λ (o : Turn). o.count) (sym turns)
+    counts = ap (λ (o : End). o.count) (sym ends)
 
     long : length s ≡ length t
     long = u.kept.as_long ∙ sym v.kept.as_long

@@ -1,5 +1,7 @@
 -- What the parts of an exploration keep, and what is known at its end: cited by the contracts of this crate's functions, and by no promise of the search.
-use Rattle.std.specs.Prelude.{◌≡◌, ◌⊎◌, ◌≢◌, true, false, List, ℕ, ◌+◌, ◌≤◌, ◌<◌, length, drop}
+use Rattle.std.specs.Prelude.{◌≡◌, ◌≢◌, List, ℕ, ◌+◌, ◌≤◌, ◌<◌, length, drop, Option, Some, None}
+use Rattle.std.specs.declared.ops.ControlFlow.{ControlFlow}
+use Rattle.std.specs.declared.ops.ControlFlow.TheVariants.{Continue, Break}
 use Rattle.std.proofs.Math.Option.{none, some}
 use Rattle.meaning.specs.Sets.{◌⊆◌}
 use Rattle.meaning.specs.Domain.{Domain}
@@ -12,24 +14,13 @@ use Rattle.sets.specs.Words.{Value, set_of, IsValue}
 use Rattle.store.specs.declared.Node.{Node}
 use Rattle.store.specs.Nodes.{node_at, set_at, meant}
 use Rattle.explore.specs.Ready.{Ready}
-use Rattle.explore.specs.declared.Turn.{Turn}
-use Rattle.explore.specs.declared.Next.{Next}
+use Rattle.explore.specs.declared.Ending.{Ending}
+use Rattle.explore.specs.declared.Ending.TheVariants.{Plan, NoPlan, NoRoom}
+use Rattle.explore.specs.declared.End.{End}
 
--- the kinds of a turn's end
-abbrev pub ends_plan : ℕ
-ends_plan = 0
-
-abbrev pub ends_no_plan : ℕ
-ends_no_plan = 1
-
-abbrev pub ends_no_room : ℕ
-ends_no_room = 2
-
-abbrev pub goes_on : ℕ
-goes_on = 3
-
-abbrev pub turn : ℕ → ℕ → Turn
-turn kind count = record { kind = kind; count = count }
+-- an end by how it came, with so many places stored
+abbrev pub ended_as : Ending → ℕ → End
+ended_as ending count = record { ending = ending; count = count }
 
 -- ---- one command at one place
 
@@ -44,14 +35,15 @@ pub record Fresh (D : Domain) (l : List Node) (count i a : ℕ) (y : Value) : Ty
   pub gives : step D (set_at l i) a ≡ some (set_of y)
   pub nowhere : (k : ℕ) → k < count → set_at l k ≢ set_of y
 
-pub record NextAt (D : Domain) (l : List Node) (count i a : ℕ) (g : Next) : Type 0 where
-  pub old : g.new ≡ false → Old D l count i a
-  pub fresh : g.new ≡ true → Fresh D l count i a g.set
+-- what a command gives: the value of a fresh set, or nothing new
+pub record NextAt (D : Domain) (l : List Node) (count i a : ℕ) (g : Option Value) : Type 0 where
+  pub old : g ≡ None → Old D l count i a
+  pub fresh : (y : Value) → g ≡ Some y → Fresh D l count i a y
 
--- the goal test of a set that is stored
-pub record Tested (y g count : ℕ) (t : Turn) : Type 0 where
-  pub count_is : t.count ≡ count
-  pub case : ((t.kind ≡ ends_plan) × (y ⊆ g)) ⊎ ((t.kind ≡ goes_on) × ¬ (y ⊆ g))
+-- the goal test of a set that is stored as the last of `count`: the search goes on, or ends with a plan
+abbrev pub Tested : ℕ → ℕ → ℕ → ControlFlow End ℕ → Type 0
+Tested y g count (Continue c) = (c ≡ count) × ¬ (y ⊆ g)
+Tested y g count (Break e) = (e ≡ ended_as Plan count) × (y ⊆ g)
 
 -- ---- the store
 
@@ -94,25 +86,28 @@ pub record MoreThanRoom (D : Domain) (x g room count : ℕ) : Type 0 where
   pub none_inside : (k : ℕ) (e : Entry) → FirstInside g (listing D x) k e → room ≤ k
 
 -- the search has ended
-pub record Ended (D : Domain) (x g room : ℕ) (t : Turn) (l : List Node) : Type 0 where
+pub record Ended (D : Domain) (x g room : ℕ) (e : End) (l : List Node) : Type 0 where
   pub ready : Ready D x
-  pub stored : Stored D x t.count l
-  pub fits : t.count ≤ room
+  pub stored : Stored D x e.count l
+  pub fits : e.count ≤ room
   pub there : room ≤ length l
-  pub kinds : t.kind < goes_on
-  pub plan : t.kind ≡ ends_plan → LastInside D x g t.count
-  pub no_plan : t.kind ≡ ends_no_plan → AllOutside D x g t.count
-  pub no_room : t.kind ≡ ends_no_room → MoreThanRoom D x g room t.count
+  pub plan : e.ending ≡ Plan → LastInside D x g e.count
+  pub no_plan : e.ending ≡ NoPlan → AllOutside D x g e.count
+  pub no_room : e.ending ≡ NoRoom → MoreThanRoom D x g room e.count
 
--- from `first` places on: the search has ended, or goes on with command a at place i
-pub record Turned (D : Domain) (x g room i a first : ℕ) (before after : List Node) (t : Turn) : Type 0 where
-  pub kept : Kept t.count before after
-  pub grown : first ≤ t.count
-  pub on : t.kind ≡ goes_on → Going D x g room i a t.count after
-  pub ended : t.kind ≢ goes_on → Ended D x g room t after
+-- from `first` places on: the search goes on with command a at place i
+pub record GoneOn (D : Domain) (x g room i a first : ℕ) (before after : List Node) (count : ℕ) : Type 0 where
+  pub kept : Kept count before after
+  pub grown : first ≤ count
+  pub going : Going D x g room i a count after
 
 -- from `first` places on: the search has ended
-pub record Explored (D : Domain) (x g room first : ℕ) (before after : List Node) (t : Turn) : Type 0 where
-  pub kept : Kept t.count before after
-  pub grown : first ≤ t.count
-  pub ended : Ended D x g room t after
+pub record Explored (D : Domain) (x g room first : ℕ) (before after : List Node) (e : End) : Type 0 where
+  pub kept : Kept e.count before after
+  pub grown : first ≤ e.count
+  pub ended : Ended D x g room e after
+
+-- from `first` places on: the search goes on with command a at place i, or has ended
+abbrev pub Turned : Domain → ℕ → ℕ → ℕ → ℕ → ℕ → ℕ → List Node → List Node → ControlFlow End ℕ → Type 0
+Turned D x g room i a first before after (Continue count) = GoneOn D x g room i a first before after count
+Turned D x g room i a first before after (Break e) = Explored D x g room first before after e

@@ -5,40 +5,45 @@
 ghost use Rattle.std.specs.Prelude.{◌≡◌};
 ghost use Rattle.meaning.specs.Walk as walk;
 ghost use Rattle.sets.specs.Words.{set_of, set_for};
-ghost use Rattle.follow.specs.Following.{domain_by};
+ghost use Rattle.follow.specs.Following.{domain_of};
 
 use sets::Set;
 use sheet::Head;
 
-// Whether each state of `set` can take `command`. It stops at the first that cannot.
-pub fn sendable(head: Head, sheet: &[u8], command: usize, set: Set) -> bool
-    ensures { result ≡ walk.sendable ((domain_by head sheet.now).follow command) (set_of set) head.states }
-{
-    let states = head.states;
-    let mut state = 0;
-    while state < states {
-        if sets::has(set, state) {
-            if sets::is_empty(shown::set_at(sheet, states, command, state)) {
-                return false;
-            }
-        }
-        state += 1;
-    }
-    true
+// A scanner as an accepted sheet describes it: the sheet's head, and its bytes, from which the following sets are read.
+#[derive(Clone, Copy)]
+pub struct Scanner<'a> {
+    pub head: Head,
+    pub sheet: &'a [u8],
 }
 
-// The union of what follows each state of `set` by `command`.
-pub fn image(head: Head, sheet: &[u8], command: usize, set: Set) -> Set
-    ensures { result ≡ set_for (walk.image ((domain_by head sheet.now).follow command) (set_of set) head.states) }
-{
-    let states = head.states;
-    let mut all = sets::empty();
-    let mut state = 0;
-    while state < states {
-        if sets::has(set, state) {
-            all = sets::union(all, shown::set_at(sheet, states, command, state));
+impl<'a> Scanner<'a> {
+    // Whether each state of `set` can take `command`. It stops at the first that cannot.
+    pub fn sendable(self, command: usize, set: Set) -> bool
+        ensures { result ≡ walk.sendable ((domain_of self.entry).follow command) (set_of set) self.entry.head.states }
+    {
+        let states = self.head.states;
+        for state in 0..states {
+            if set.has(state) {
+                if shown::set_at(self.sheet, states, command, state).is_empty() {
+                    return false;
+                }
+            }
         }
-        state += 1;
+        true
     }
-    all
+
+    // The union of what follows each state of `set` by `command`.
+    pub fn image(self, command: usize, set: Set) -> Set
+        ensures { result ≡ set_for (walk.image ((domain_of self.entry).follow command) (set_of set) self.entry.head.states) }
+    {
+        let states = self.head.states;
+        let mut all = Set::empty();
+        for state in 0..states {
+            if set.has(state) {
+                all = all.union(shown::set_at(self.sheet, states, command, state));
+            }
+        }
+        all
+    }
 }

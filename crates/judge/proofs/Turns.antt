@@ -1,73 +1,50 @@
--- The turns of the judge's two loops, on plain lists: the plan is looked through for a number that is no command, and walked command by command.
+-- What the judge's two walks over a plan find, in the words of the meaning: the first number that is no command, and how the walk goes on and ends.
 use mathlib.Core.Path.{◌≡◌, sym, ap, ◌∙◌, subst}
-use mathlib.Core.Logic.{⊎_elim}
 use mathlib.Core.Bool.{true, false}
-use mathlib.Core.List.{List}
+use mathlib.Core.List.{List, [], ◌∷◌, ◌++◌}
 use Prim.Native.Nat.{ℕ, ◌+◌, ◌≤◌, ◌<◌}
-use native.Mathlib.Nat.{not-suc-le-zero, eq-or-lt_of_le, le_of_suc-le-suc, lt_of_lt_of_le, le_of_eq}
 use native.Mathlib.Numerals.{add-one}
-use native.Mathlib.Omega.{arith}
 use lib.ListN.{length, take, get_or}
-use lib.Seq.{take-suc, take_all}
+use lib.Seq.{take-suc}
+use Rattle.std.specs.Prelude.{Option, Some, None, Err}
 use Rattle.meaning.specs.Domain.{Domain}
 use Rattle.meaning.specs.Walk.{sendable, image, step, Gives}
 use Rattle.meaning.specs.Listing.{At}
+use Rattle.meaning.specs.Answers.{NotSendable}
 use Rattle.meaning.proofs.Places.{get_d_at, at_get_or, at_lt}
 use Rattle.meaning.proofs.StepLaws.{step_sends, step_stops}
-use Rattle.meaning.proofs.WalkLaws.{gives_nil, gives_snoc}
+use Rattle.meaning.proofs.WalkLaws.{gives_snoc}
+use Rattle.sets.specs.Words.{set_of}
+use Rattle.judge.specs.declared.Blocked.{Blocked}
 use Rattle.judge.specs.Turns.{FirstMissing, WalkedTo}
 
 -- ---- the first number that is no command
 
 module _ (m : ℕ) (p : List ℕ) where
-  -- the numbers before index k are commands
-  abbrev pub Commands : ℕ → Type 0
-  Commands k = (j a : ℕ) → j < k → At p j a → a < m
+  abbrev pub Command : ℕ → Type 0
+  Command j = get_or p j 0 < m
 
-  pub commands-none : Commands 0
-  commands-none j a h = absurd (not-suc-le-zero h)
-
-  pub commands-more : {k : ℕ} → Commands k → get_or p k 0 < m → Commands (k + 1)
-  commands-more {k} c h j a l u = ⊎_elim
-      (λ (e : j ≡ k). subst (λ (b : ℕ). b < m) (ap (λ (i : ℕ). get_or p i 0) (sym e) ∙ at_get_or 0 u) h)
-      (λ b. c j a b u)
-      (eq-or-lt_of_le (le_of_suc-le-suc (subst (λ (n : ℕ). j < n) (add-one k) l)))
-
-  pub missing-here : {k : ℕ} → Commands k → k < length p → m ≤ get_or p k 0 → FirstMissing m p k
-  missing-here {k} c l h = record {
-    upto = omega arith;
-    missing = λ b. record { number = get_or p k 0; at-index = get_d_at p 0 k l; missing = h; before = c };
-    none = λ e. absurd (omega arith);
-  }
-
-  pub missing-nowhere : {k : ℕ} → Commands k → k ≡ length p → FirstMissing m p k
-  missing-nowhere {k} c e = record {
-    upto = le_of_eq e;
-    missing = λ b. absurd (omega arith);
-    none = λ f j a u. c j a (lt_of_lt_of_le (at_lt u) (le_of_eq (sym e))) u;
+  pub first_missing_is : (r : Option ℕ) → ((k : ℕ) → r ≡ Some k → (k < length p) × (m ≤ get_or p k 0) × ((j : ℕ) → j < k → Command j)) → (r ≡ None → (j : ℕ) → j < length p → Command j) → FirstMissing m p r
+  first_missing_is r some none = record {
+    missing = λ {k} e.
+        let f = some k e in
+        record { number = get_or p k 0; at-index = get_d_at p 0 k f.0; missing = f.1; before = λ j a l u. subst (λ (b : ℕ). b < m) (at_get_or 0 u) (f.2 j l) };
+    none = λ e j a u. subst (λ (b : ℕ). b < m) (at_get_or 0 u) (none e j (at_lt u));
   }
 
 -- ---- the walk
 
 module _ (D : Domain) (x : ℕ) (p : List ℕ) where
-  pub walk_starts : Gives (step D) x (take 0 p) x
-  walk_starts = gives_nil (step D) x
+  pub walk_goes_on : {k a y z : ℕ} → k < length p → a ≡ get_or p k 0 → Gives (step D) x (take k p) y → sendable (D.follow a) y D.states ≡ true
+      → z ≡ image (D.follow a) y D.states → Gives (step D) x (take (k + 1) p) z
+  walk_goes_on {k} {a} {y} {z} l i g s e = subst (λ (q : List ℕ). Gives (step D) x q z) (ap (λ (b : ℕ). take k p ++ (b ∷ [])) i ∙ sym (ap (λ (n : ℕ). take n p) (add-one k) ∙ take-suc p k 0 l))
+      (subst (Gives (step D) x _) (sym e) (gives_snoc (step D) g (step_sends D y a s)))
 
-  pub walk_goes_on : {k y z : ℕ} → k < length p → Gives (step D) x (take k p) y → sendable (D.follow (get_or p k 0)) y D.states ≡ true
-      → z ≡ image (D.follow (get_or p k 0)) y D.states → Gives (step D) x (take (k + 1) p) z
-  walk_goes_on {k} {y} {z} l g s e = subst (λ (q : List ℕ). Gives (step D) x q z) (sym (ap (λ (n : ℕ). take n p) (add-one k) ∙ take-suc p k 0 l))
-      (subst (Gives (step D) x _) (sym e) (gives_snoc (step D) g (step_sends D y (get_or p k 0) s)))
-
-  pub walk-blocked : {k y : ℕ} → k < length p → Gives (step D) x (take k p) y → sendable (D.follow (get_or p k 0)) y D.states ≡ false → WalkedTo D x p k y
-  walk-blocked {k} {y} l g s = record {
-    upto = omega arith;
-    blocked = λ b. record { command = get_or p k 0; at-index = get_d_at p 0 k l; gives = g; no_image = step_stops D y (get_or p k 0) s };
-    ended = λ e. absurd (omega arith);
-  }
-
-  pub walk_ends : {k y : ℕ} → k ≡ length p → Gives (step D) x (take k p) y → WalkedTo D x p k y
-  walk_ends {k} {y} e g = record {
-    upto = le_of_eq e;
-    blocked = λ b. absurd (omega arith);
-    ended = λ f. subst (λ (q : List ℕ). Gives (step D) x q y) (take_all k p (le_of_eq (sym e))) g;
+  pub walk-blocked : {b : Blocked} {a : ℕ} → b.at < length p → a ≡ get_or p b.at 0 → Gives (step D) x (take b.at p) (set_of b.set) → sendable (D.follow a) (set_of b.set) D.states ≡ false → WalkedTo D x p (Err b)
+  walk-blocked {b} {a} l i g s = record {
+    blocked = λ {b = c} e.
+        let same : b ≡ c = cc in
+        subst (λ (d : Blocked). NotSendable D x p d.at (set_of d.set)) same
+        (record { command = a; at-index = subst (At p b.at) (sym i) (get_d_at p 0 b.at l); gives = g; no_image = step_stops D (set_of b.set) a s });
+    ended = λ {y} e. absurd (cc);
   }

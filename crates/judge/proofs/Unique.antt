@@ -2,11 +2,12 @@
 use mathlib.Core.Path.{◌≡◌, refl, sym, ap, ◌∙◌, subst}
 use mathlib.Core.Logic.{◌⊎◌, inl, inr, ⊎_elim, ◌↔◌}
 use mathlib.Core.List.{List}
-use Prim.Native.Nat.{ℕ, ◌≤◌, ◌<◌}
+use Prim.Native.Nat.{ℕ, zero, suc, ◌≤◌, ◌<◌}
 use native.Mathlib.Nat.{lt_of_not-le}
 use native.Mathlib.Decide.{dec_le}
 use denote.Ref.{Bor}
 use lib.ListN.{length}
+use Rattle.std.specs.Prelude.{Result, Ok, Err, ⊤, Option, Some, None}
 use Rattle.meaning.specs.Answers as answers
 use Rattle.meaning.specs.Answers.{judged, AllCommands, NotSendable}
 use Rattle.meaning.specs.Runs as runs
@@ -16,24 +17,24 @@ use Rattle.meaning.proofs.JudgeLaws.{judges_unique, judge_meets, judged_11, good
 use Rattle.meaning.proofs.Agreement.{Blocks, blocked_is_stuck}
 use Rattle.sets.specs.Words.{set_of, set_for}
 use Rattle.sheet.specs.Sheet.{domain_in}
-use Rattle.sheet.specs.Answers.{reading}
+use Rattle.sheet.specs.Answers.{reading, Reading}
 use Rattle.sheet.specs.declared.Head.{Head}
-use Rattle.sheet.specs.declared.Reading.{Reading}
-use Rattle.sheet.specs.declared.Reading.TheVariants as reading-is
+use Rattle.sheet.specs.declared.Refusal.{Refusal}
+use Rattle.sheet.proofs.Reasons.{refusal_inj}
 use Rattle.sheet.proofs.DomainLaws.{domain_well_formed, initial-start}
-use Rattle.judge.specs.declared.Verdict.{Verdict}
-use Rattle.judge.specs.declared.Verdict.TheVariants.{Good, Refused}
 use Rattle.judge.specs.declared.Judged.{Judged}
-use Rattle.judge.specs.Verdicts.{verdict_of, place_of, values_of, JudgedBy, GoodFor, ChoiceOf, BetterOf}
+use Rattle.judge.specs.declared.Which.{Which}
+use Rattle.judge.specs.declared.Which.TheVariants.{First, Second}
+use Rattle.judge.specs.Verdicts.{verdict_of, place_of, values_of, choice_number, JudgedBy, GoodFor, ChoiceOf, BetterOf}
 use Rattle.sheet.proofs.Readings.{not_both, accepted_inj}
 
 -- ---- the judge
 
-verdict_inj : (v w : Verdict) → verdict_of v ≡ verdict_of w → place_of v ≡ place_of w → v ≡ w
-verdict_inj Good Good e f = refl
-verdict_inj Good (Refused g) e f = absurd (laws.refused_not_good (sym e))
-verdict_inj (Refused g) Good e f = absurd (laws.refused_not_good e)
-verdict_inj (Refused g) (Refused h) e f = λ i. Refused (record { number = laws.refused_inj e i; place = f i })
+verdict_inj : (v w : Result ⊤ Refusal) → verdict_of v ≡ verdict_of w → place_of v ≡ place_of w → v ≡ w
+verdict_inj (Ok u) (Ok t) e f = refl
+verdict_inj (Ok u) (Err g) e f = absurd (laws.refused_not_good (sym e))
+verdict_inj (Err g) (Ok u) e f = absurd (laws.refused_not_good e)
+verdict_inj (Err g) (Err h) e f = ap Err (refusal_inj g h (laws.refused_inj e) f)
 
 values_inj : {l p : List ℕ} {i j : Judged} → JudgedBy l p i → JudgedBy l p j → values_of i ≡ values_of j → i ≡ j
 values_inj {i} {j} u v e = λ k. record {
@@ -47,10 +48,10 @@ module _ {l p : List ℕ} where
   judge_unique {i} {j} u v = go (reading l) refl
     where
       go : (r : Reading) → reading l ≡ r → i ≡ j
-      go (reading-is.Accepted h) e = values_inj u v (judges_unique (domain_in l) (set_of h.initial) (set_of h.goal) p (u.accepted e) (v.accepted e))
-      go (reading-is.Refused f) e = u.refused e ∙ sym (v.refused e)
+      go (Ok h) e = values_inj u v (judges_unique (domain_in l) (set_of h.initial) (set_of h.goal) p (u.accepted e) (v.accepted e))
+      go (Err f) e = u.refused e ∙ sym (v.refused e)
 
-  module _ {j : Judged} {h : Head} (u : JudgedBy l p j) (e : reading l ≡ reading-is.Accepted h) where
+  module _ {j : Judged} {h : Head} (u : JudgedBy l p j) (e : reading l ≡ Ok h) where
     -- for an accepted sheet the answer is the computed one
     pub judge-value : values_of j ≡ computed.judge (domain_in l) (set_of h.initial) (set_of h.goal) p
     judge-value = judges_unique (domain_in l) (set_of h.initial) (set_of h.goal) p (u.accepted e) (judge_meets (domain_in l) (set_of h.initial) (set_of h.goal) p)
@@ -68,8 +69,8 @@ pub good_for_dec : (l p : List ℕ) → GoodFor l p ⊎ (¬ GoodFor l p)
 good_for_dec l p = go (reading l) refl
   where
     go : (r : Reading) → reading l ≡ r → GoodFor l p ⊎ (¬ GoodFor l p)
-    go (reading-is.Refused f) e = inr (λ g. not_both (sym g.accepted ∙ e))
-    go (reading-is.Accepted h) e = ⊎_elim
+    go (Err f) e = inr (λ g. not_both (sym g.accepted ∙ e))
+    go (Ok h) e = ⊎_elim
         (λ g. inl (record { head = h; accepted = e; good = g }))
         (λ n. inr (λ g. n (subst (λ (k : Head). runs.Good (domain_in l) (set_of k.initial) (set_of k.goal) p) (accepted_inj (sym g.accepted ∙ e)) g.good)))
         (good_dec (domain_in l) (domain_well_formed l h e) (initial-start l h e) (set_of h.goal) p)
@@ -97,6 +98,21 @@ choice_unique {l} {a} {b} {c} {d} u v = go (case l a b)
     go (first g h) = u.first g h ∙ sym (v.first g h)
     go (second g h) = u.second g h ∙ sym (v.second g h)
     go (neither g h) = u.neither g h ∙ sym (v.neither g h)
+
+-- the choice that a number stands for
+abbrev numbered : ℕ → Option Which
+numbered zero = None
+numbered (suc zero) = Some First
+numbered (suc (suc n)) = Some Second
+
+undone : (w : Option Which) → numbered (choice_number w) ≡ w
+undone None = refl
+undone (Some First) = refl
+undone (Some Second) = refl
+
+-- and so a choice is told by its number
+pub which_unique : {l a b : List ℕ} {w v : Option Which} → ChoiceOf l a b (choice_number w) → ChoiceOf l a b (choice_number v) → w ≡ v
+which_unique {w = w} {v = v} u t = sym (undone w) ∙ ap numbered (choice_unique u t) ∙ undone v
 
 module _ {l : List ℕ} {a b : Bor (List ℕ)} where
   -- one content, at one place in memory

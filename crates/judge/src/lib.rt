@@ -5,103 +5,90 @@ ghost use Rattle.std.specs.Prelude.{◌≡◌};
 ghost use Rattle.meaning.specs.Answers as answers;
 ghost use Rattle.meaning.specs.Answers.{Judges, judged};
 ghost use Rattle.meaning.specs.Sets.{Tells};
-ghost use Rattle.sets.specs.Words.{set_of, IsValue};
-ghost use Rattle.follow.specs.Following.{domain_by};
-ghost use Rattle.judge.specs.Verdicts.{values_of, JudgedBy, GoodFor, ChoiceOf, BetterOf};
+ghost use Rattle.sets.specs.Words.{set_of};
+ghost use Rattle.sheet.specs.Refusals.{number_of};
+ghost use Rattle.follow.specs.Following.{domain_of};
+ghost use Rattle.judge.specs.Verdicts.{values_of, choice_number, JudgedBy, GoodFor, ChoiceOf, BetterOf};
 ghost use Rattle.judge.specs.Turns.{FirstMissing, WalkedTo};
 
-use follow::{image, sendable};
+use follow::Scanner;
 use sets::Set;
-use sheet::{Head, Reading, Refusal};
-
-#[derive(Clone, Copy)]
-pub enum Verdict {
-    Good,
-    Refused(Refusal),
-}
+use sheet::{Reason, Refusal};
 
 // The verdict, the set where the walk ended, and how many states are still possible there.
-#[derive(Clone, Copy)]
+#[derive(Clone, Copy, Debug, PartialEq, Eq)]
 pub struct Judged {
-    pub verdict: Verdict,
+    pub verdict: Result<(), Refusal>,
     pub set: Set,
     pub left: u32,
 }
 
-// Where a walk ended: after so many commands, with that set.
+// Where a walk is blocked: at the command of this index, which is not sendable in this set.
 #[derive(Clone, Copy)]
-struct End {
+struct Blocked {
     at: usize,
     set: Set,
 }
 
-// The index of the first byte of the plan that is no command, or the plan's length.
-fn first_missing(plan: &[u8], commands: usize) -> usize
+// One of two plans.
+#[derive(Clone, Copy, Debug, PartialEq, Eq)]
+pub enum Which {
+    First,
+    Second,
+}
+
+// The index of the first byte of the plan that is no command, if there is one.
+fn first_missing(plan: &[u8], commands: usize) -> Option<usize>
     ensures { FirstMissing commands plan.now result }
 {
-    let mut i = 0;
-    while i < plan.len() {
-        if commands <= plan[i] as usize {
-            return i;
-        }
-        i += 1;
-    }
-    i
+    plan.iter().position(|&c| commands <= usize::from(c))
 }
 
 // Sends the plan's commands from the initial set, up to the first that is not sendable.
-fn walk(head: Head, sheet: &[u8], plan: &[u8]) -> End
-    requires { IsValue head.initial }
-    ensures value { IsValue result.set }
-    ensures walked_to { WalkedTo (domain_by head sheet.now) (set_of head.initial) plan.now result.at (set_of result.set) }
+fn walk(scanner: Scanner, plan: &[u8]) -> Result<Set, Blocked>
+    ensures { WalkedTo (domain_of scanner.entry) (set_of scanner.entry.head.initial) plan.now result }
 {
-    let mut set = head.initial;
-    let mut at = 0;
-    while at < plan.len() {
-        let command = plan[at] as usize;
-        if !sendable(head, sheet, command, set) {
-            return End { at, set };
+    let mut set = scanner.head.initial;
+    for (at, &c) in plan.iter().enumerate() {
+        let command = usize::from(c);
+        if !scanner.sendable(command, set) {
+            return Err(Blocked { at, set });
         }
-        set = image(head, sheet, command, set);
-        at += 1;
+        set = scanner.image(command, set);
     }
-    End { at, set }
+    Ok(set)
 }
 
-// The judgement by a number of the table, with its place and its set.
-fn refused(number: u8, place: usize, set: Set) -> Judged
+// The judgement for a reason of the table, with its place and its set.
+fn refused(reason: Reason, place: usize, set: Set) -> Judged
     ensures set_value { result.set ≡ set }
-    ensures result_value { values_of result ≡ judged (answers.refused number) place (set_of set) }
+    ensures result_value { values_of result ≡ judged (answers.refused (number_of reason)) place (set_of set) }
 {
     Judged {
-        verdict: Verdict::Refused(Refusal { number, place }),
+        verdict: Err(reason.at(place)),
         set,
-        left: sets::ones(set),
+        left: set.ones(),
     }
 }
 
-// The judgement of a plan for a sheet that was accepted with this head.
-fn judge_by(head: Head, sheet: &[u8], plan: &[u8]) -> Judged
-    requires { IsValue head.initial }
-    ensures value { IsValue result.set }
-    ensures judges { Judges (domain_by head sheet.now) (set_of head.initial) (set_of head.goal) plan.now (values_of result) }
+// The judgement of a plan for a scanner whose sheet was accepted.
+fn judge_by(scanner: Scanner, plan: &[u8]) -> Judged
+    ensures { Judges (domain_of scanner.entry) (set_of scanner.entry.head.initial) (set_of scanner.entry.head.goal) plan.now (values_of result) }
 {
-    let length = plan.len();
-    let missing = first_missing(plan, head.commands);
-    if missing < length {
-        return refused(10, missing, sets::empty());
+    if let Some(missing) = first_missing(plan, scanner.head.commands) {
+        return refused(Reason::NoCommand, missing, Set::empty());
     }
-    let end = walk(head, sheet, plan);
-    if end.at < length {
-        return refused(11, end.at, end.set);
-    }
-    if !sets::inside(end.set, head.goal) {
-        return refused(12, length, end.set);
+    let set = match walk(scanner, plan) {
+        Ok(set) => set,
+        Err(blocked) => return refused(Reason::NotSendable, blocked.at, blocked.set),
+    };
+    if !set.inside(scanner.head.goal) {
+        return refused(Reason::OutsideGoal, plan.len(), set);
     }
     Judged {
-        verdict: Verdict::Good,
-        set: end.set,
-        left: sets::ones(end.set),
+        verdict: Ok(()),
+        set,
+        left: set.ones(),
     }
 }
 
@@ -110,12 +97,12 @@ pub fn judge(sheet: &[u8], plan: &[u8]) -> Judged
     ensures { JudgedBy sheet.now plan.now result }
 {
     match sheet::read(sheet) {
-        Reading::Refused(f) => Judged {
-            verdict: Verdict::Refused(f),
-            set: sets::empty(),
+        Ok(head) => judge_by(Scanner { head, sheet }, plan),
+        Err(refusal) => Judged {
+            verdict: Err(refusal),
+            set: Set::empty(),
             left: 0,
         },
-        Reading::Accepted(head) => judge_by(head, sheet, plan),
     }
 }
 
@@ -123,40 +110,28 @@ pub fn judge(sheet: &[u8], plan: &[u8]) -> Judged
 fn is_good(sheet: &[u8], plan: &[u8]) -> bool
     ensures { Tells result (GoodFor sheet.now plan.now) }
 {
-    let judged = judge(sheet, plan);
-    let verdict = judged.verdict;
-    match verdict {
-        Verdict::Good => true,
-        Verdict::Refused(_) => false,
-    }
+    judge(sheet, plan).verdict.is_ok()
 }
 
-// Which of two plans is the better: 1 the first, 2 the second, 0 where neither is good.
-pub fn choice(sheet: &[u8], first: &[u8], second: &[u8]) -> u8
-    ensures { ChoiceOf sheet.now first.now second.now result }
+// Which of two plans is the better: the shorter good one, and the first where both are good and equally long. None where neither is good.
+pub fn choice(sheet: &[u8], first: &[u8], second: &[u8]) -> Option<Which>
+    ensures { ChoiceOf sheet.now first.now second.now (choice_number result) }
 {
-    let first_good = is_good(sheet, first);
-    if is_good(sheet, second) {
-        if !first_good {
-            return 2;
-        }
-        if second.len() < first.len() {
-            return 2;
-        }
+    match (is_good(sheet, first), is_good(sheet, second)) {
+        (true, true) if second.len() < first.len() => Some(Which::Second),
+        (true, _) => Some(Which::First),
+        (false, true) => Some(Which::Second),
+        (false, false) => None,
     }
-    if first_good { 1 } else { 0 }
 }
 
 // Of two plans the shorter good one, as the caller's own bytes; the first's empty start where neither is good.
 pub fn better<'a>(sheet: &[u8], first: &'a [u8], second: &'a [u8]) -> &'a [u8]
     ensures { BetterOf sheet.now first.entry second.entry result }
 {
-    let which = choice(sheet, first, second);
-    if which == 1 {
-        return first;
+    match choice(sheet, first, second) {
+        Some(Which::First) => first,
+        Some(Which::Second) => second,
+        None => &first[..0],
     }
-    if which == 2 {
-        return second;
-    }
-    &first[0..0]
 }

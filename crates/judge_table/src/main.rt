@@ -2,8 +2,8 @@
 // and then the verdict with its number and place, the set, and how many states are still possible.
 #![tactic(auto)]
 
-use judge::Verdict;
-use sets::of_word;
+use sets::Set;
+use sheet::{Head, Refusal};
 use std::io;
 
 // The room of 4 by 4 places of document 001: place (x, y) is state 4 * y + x, (1, 1) is a hole and (2, 2) is slippery. The commands are west,
@@ -15,69 +15,66 @@ const ROOM: [u64; 64] = [
     16384, 32768,
 ];
 
-fn wide(x: u8) -> u64 {
-    x as u64
-}
+// A plan for a sheet, after the label of its line.
+type Row<'a> = (&'a str, &'a [u8], &'a [u8]);
 
-fn field(rt: &impl Print, n: u64) -> io::Result<()> {
-    rt.write_all(b" ")?;
-    rt.print(n)
+// The verdict with its number and place. A good plan has the number 0, and no place.
+fn say_verdict(rt: &impl Print, verdict: Result<(), Refusal>) -> io::Result<()> {
+    match verdict {
+        Ok(()) => print!(rt; " GOOD 0"),
+        Err(refusal) => print!(rt; " REFUSED {refusal}"),
+    }
 }
 
 // Judges a plan and prints the answer.
-fn say(rt: &impl Print, label: &[u8], sheet: &[u8], plan: &[u8]) -> io::Result<()> {
+fn say(rt: &impl Print, label: &str, sheet: &[u8], plan: &[u8]) -> io::Result<()> {
     let judged = judge::judge(sheet, plan);
-    rt.write_all(label)?;
-    let verdict = judged.verdict;
-    match verdict {
-        Verdict::Good => {
-            rt.write_all(b" GOOD")?;
-            field(rt, 0)?;
-        }
-        Verdict::Refused(q) => {
-            rt.write_all(b" REFUSED")?;
-            field(rt, q.number as u64)?;
-            field(rt, q.place as u64)?;
-        }
-    }
-    field(rt, sets::to_word(judged.set))?;
-    field(rt, judged.left as u64)?;
-    rt.write_all(b"\n")
+    print!(rt; "{label}")?;
+    say_verdict(rt, judged.verdict)?;
+    println!(rt; " {} {}", u64::from(judged.set), judged.left)
 }
 
-// Judges a plan against the first n bytes of a sheet.
-fn say_first(rt: &impl Print, label: &[u8], bytes: &[u8], n: usize, plan: &[u8]) -> io::Result<()> {
-    if n <= bytes.len() {
-        say(rt, label, &bytes[0..n], plan)?;
+fn say_all(rt: &impl Print, rows: &[Row]) -> io::Result<()> {
+    for (label, sheet, plan) in rows {
+        say(rt, label, sheet, plan)?;
     }
     Ok(())
 }
 
 // Prints the better of two plans: how long it is, and its first command, or 255 where it has none.
-fn say_better<'a>(
+fn say_better(
     rt: &impl Print,
-    label: &[u8],
+    label: &str,
     sheet: &[u8],
-    first: &'a [u8],
-    second: &'a [u8],
+    first: &[u8],
+    second: &[u8],
 ) -> io::Result<()> {
     let plan = judge::better(sheet, first, second);
-    rt.write_all(label)?;
-    rt.write_all(b" BETTER")?;
-    field(rt, plan.len() as u64)?;
-    if 0 < plan.len() {
-        field(rt, wide(plan[0]))?;
-    } else {
-        field(rt, 255)?;
-    }
-    rt.write_all(b"\n")
+    let command = plan.first().copied().unwrap_or(255);
+    println!(rt; "{label} BETTER {} {command}", plan.len())
 }
 
-// The bytes of a sheet of two states and two commands.
-fn small(initial: u64, goal: u64, sets: [u64; 4]) -> [u8; 55] {
-    let mut out = [0u8; 55];
-    writer::write(2, 2, of_word(initial), of_word(goal), &sets, &mut out);
+// The bytes of a sheet whose following sets are given in words.
+fn sheet<const BYTES: usize, const SETS: usize>(
+    states: usize,
+    initial: u64,
+    goal: u64,
+    sets: [u64; SETS],
+) -> [u8; BYTES] {
+    let head = Head {
+        states,
+        commands: SETS.checked_div(states).unwrap_or(0),
+        initial: Set::from(initial),
+        goal: Set::from(goal),
+    };
+    let mut out = [0; BYTES];
+    let _ = writer::write(head, &sets, &mut out);
     out
+}
+
+// One of two states and two commands.
+fn small(initial: u64, goal: u64, sets: [u64; 4]) -> [u8; 55] {
+    sheet(2, initial, goal, sets)
 }
 
 // Sheet S: command 0 swaps the states, command 1 leads to 0 from both.
@@ -91,20 +88,22 @@ fn partial() -> [u8; 55] {
 }
 
 fn room(initial: u64) -> [u8; 535] {
-    let mut out = [0u8; 535];
-    let sets = ROOM;
-    writer::write(16, 4, of_word(initial), of_word(2176), &sets, &mut out);
-    out
+    sheet(16, initial, 2176, ROOM)
 }
 
 // The scope's rows.
 fn scope_rows(rt: &impl Print) -> io::Result<()> {
     let s = sheet_s(3, 1);
-    say(rt, b"plan-1", &s, b"\x01")?;
-    say(rt, b"empty-plan", &s, b"")?;
-    say(rt, b"1-then-7", &s, b"\x01\x07")?;
-    say(rt, b"impossible-in-1", &partial(), b"\x01")?;
-    say(rt, b"empty-good", &sheet_s(3, 3), b"")
+    say_all(
+        rt,
+        &[
+            ("plan-1", &s, &[1]),
+            ("empty-plan", &s, &[]),
+            ("1-then-7", &s, &[1, 7]),
+            ("impossible-in-1", &partial(), &[1]),
+            ("empty-good", &sheet_s(3, 3), &[]),
+        ],
+    )
 }
 
 // The students' errors.
@@ -112,65 +111,79 @@ fn error_rows(rt: &impl Print) -> io::Result<()> {
     let s = sheet_s(3, 1);
     let p = partial();
     let drift = small(1, 2, [3, 2, 0, 0]);
-    say(rt, b"on-the-way", &s, b"\x01\x00")?;
-    say(rt, b"some-outcome", &drift, b"\x00")?;
-    say(rt, b"blocked-later", &p, b"\x00\x00\x01")?;
-    say(rt, b"missing-before-blocked", &p, b"\x01\x07")
+    say_all(
+        rt,
+        &[
+            ("on-the-way", &s, &[1, 0]),
+            ("some-outcome", &drift, &[0]),
+            ("blocked-later", &p, &[0, 0, 1]),
+            ("missing-before-blocked", &p, &[1, 7]),
+        ],
+    )
 }
 
 // Commands, goals and sheets at the edge.
 fn edge_rows(rt: &impl Print) -> io::Result<()> {
     let s = sheet_s(3, 1);
-    say(rt, b"command-at-count", &s, b"\x02")?;
-    say(rt, b"command-255", &s, b"\x00\xff")?;
-    say(rt, b"empty-goal", &sheet_s(3, 0), b"\x01")?;
-    say_first(rt, b"one-byte-few", &s, 54, b"\x01")?;
-    say_first(rt, b"no-bytes", &s, 0, b"\x01")
+    say_all(
+        rt,
+        &[
+            ("command-at-count", &s, &[2]),
+            ("command-255", &s, &[0, 255]),
+            ("empty-goal", &sheet_s(3, 0), &[1]),
+            ("one-byte-few", &s[..54], &[1]),
+            ("no-bytes", &[], &[1]),
+        ],
+    )
 }
 
 fn long_rows(rt: &impl Print) -> io::Result<()> {
     let wide = sheet_s(3, 3);
-    let some = [0u8; 255];
-    say(rt, b"255-commands", &wide, &some)?;
-    let many = [0u8; 10000];
-    say(rt, b"10000-commands", &wide, &many)?;
-    let mut bad = [0u8; 10000];
+    let many = [0; 10000];
+    let mut bad = many;
     bad[9999] = 2;
-    say(rt, b"10000-last-missing", &wide, &bad)
+    say_all(
+        rt,
+        &[
+            ("255-commands", &wide, &[0; 255]),
+            ("10000-commands", &wide, &many),
+            ("10000-last-missing", &wide, &bad),
+        ],
+    )
 }
 
 // The running example of document 001: its plans of Examples 2 and 3.
 fn room_rows(rt: &impl Print) -> io::Result<()> {
     let both = room(272);
     let upper = room(16);
-    say(rt, b"example-3", &both, b"\x03\x01\x01\x01\x03\x02")?;
-    say(rt, b"example-2-from-0-1", &upper, b"\x02\x01\x01\x01\x03")
-}
-
-fn more_room_rows(rt: &impl Print) -> io::Result<()> {
     let lower = room(256);
-    say(rt, b"example-2-from-0-2", &lower, b"\x02\x01\x01\x01\x03")?;
-    say(rt, b"slippery", &lower, b"\x01\x01\x01\x03")
+    say_all(
+        rt,
+        &[
+            ("example-3", &both, &[3, 1, 1, 1, 3, 2]),
+            ("example-2-from-0-1", &upper, &[2, 1, 1, 1, 3]),
+            ("example-2-from-0-2", &lower, &[2, 1, 1, 1, 3]),
+            ("slippery", &lower, &[1, 1, 1, 3]),
+        ],
+    )
 }
 
 fn better_rows(rt: &impl Print) -> io::Result<()> {
     let s = sheet_s(3, 1);
-    say_better(rt, b"first-shorter", &s, b"\x01", b"\x00\x01")?;
-    say_better(rt, b"second-shorter", &s, b"\x00\x01", b"\x01")?;
     let alike = small(1, 2, [2, 2, 2, 2]);
-    say_better(rt, b"tie", &alike, b"\x01", b"\x00")
-}
-
-fn one_good_rows(rt: &impl Print) -> io::Result<()> {
-    let s = sheet_s(3, 1);
-    say_better(rt, b"only-second", &s, b"\x00", b"\x00\x01")?;
-    say_better(rt, b"only-first", &s, b"\x01\x01", b"\x00")
-}
-
-fn none_good_rows(rt: &impl Print) -> io::Result<()> {
-    let s = sheet_s(3, 1);
-    say_better(rt, b"neither", &s, b"\x00", b"\x00\x00")?;
-    say_better(rt, b"refused-sheet", b"\x01\x00", b"\x01", b"\x01")
+    let rows: [(&str, &[u8], &[u8], &[u8]); 7] = [
+        ("first-shorter", &s, &[1], &[0, 1]),
+        ("second-shorter", &s, &[0, 1], &[1]),
+        ("tie", &alike, &[1], &[0]),
+        ("only-second", &s, &[0], &[0, 1]),
+        ("only-first", &s, &[1, 1], &[0]),
+        ("neither", &s, &[0], &[0, 0]),
+        ("refused-sheet", &[1, 0], &[1], &[1]),
+    ];
+    for (label, sheet, first, second) in rows {
+        say_better(rt, label, sheet, first, second)?;
+    }
+    Ok(())
 }
 
 fn main(rt: HostRuntime) -> io::Result<()> {
@@ -179,8 +192,5 @@ fn main(rt: HostRuntime) -> io::Result<()> {
     edge_rows(&rt)?;
     long_rows(&rt)?;
     room_rows(&rt)?;
-    more_room_rows(&rt)?;
-    better_rows(&rt)?;
-    one_good_rows(&rt)?;
-    none_good_rows(&rt)
+    better_rows(&rt)
 }

@@ -4,19 +4,12 @@ use mathlib.Core.Path.{◌≡◌, sym, ap, ◌∙◌}
 use mathlib.Core.List.{List, [], ◌∷◌, ◌++◌, append_assoc}
 use Prim.Native.Nat.{ℕ, suc, ◌+◌, ◌*◌, ◌^◌, ◌≤◌, ◌<◌}
 use native.Mathlib.Omega.{arith}
-use lib.ListN.{length, get_or, take, set, length-append}
-use lib.Seq.{sets, length-take-le}
+use lib.ListN.{length, get_or, length-append}
+use lib.Seq.{sets}
 use Rattle.decimal.specs.Fields.{spaced}
 use Rattle.line.specs.Lines.{line_feed, row}
-use Rattle.decimal.proofs.Stores.{sets-on, take_next}
+use Rattle.decimal.proofs.Stores.{sets-on}
 use Rattle.decimal.proofs.FieldLaws.{spaced-append, length-spaced}
-
--- one byte more of a word
-pub word_on : (l : List ℕ) (at : ℕ) (w : List ℕ) (i : ℕ) → i < length w → {m : List ℕ} → m ≡ sets l at (take i w)
-    → set m (at + i) (get_or w i 0) ≡ sets l at (take (i + 1) w)
-word_on l at w i h e =
-    sets-on l at (take i w) (get_or w i 0 ∷ []) e (ap (λ (k : ℕ). at + k) (sym (length-take-le i w (omega arith))))
-    ∙ ap (λ (v : List ℕ). sets l at v) (sym (take_next w i h))
 
 module _ (word fields commands : List ℕ) where
   row_parts : row word (fields ++ commands) ≡ ((word ++ spaced fields) ++ spaced commands) ++ (line_feed ∷ [])
@@ -39,6 +32,9 @@ module _ (word fields commands : List ℕ) where
       (ed ∙ sets-on l at (word ++ spaced fields) (spaced commands) (eb ∙ sets-on l at word (spaced fields) ea ei) (omega (arith, ei, ej, length-append word (spaced fields))))
       (omega (arith, ei, ej, ek, length-append (word ++ spaced fields) (spaced commands), length-append word (spaced fields)))
       ∙ ap (λ (r : List ℕ). sets l at r) (sym row_parts)
+
+-- how long a line is, for the functions that count it
+pub ruleset row_lengths = length-row
 
 -- fields of at most j + 1 digits and commands of at most k + 1
 pub length-by_digits : (j k : ℕ) (word fields commands : List ℕ) → ((i : ℕ) → get_or fields i 0 < 10 ^ suc j) → ((i : ℕ) → get_or commands i 0 < 10 ^ suc k)

@@ -1,7 +1,7 @@
 // Prints lines of every kind, with short and long numbers and plans, to be compared with what they should be.
 #![tactic(auto)]
 
-use line::{Line, Printed};
+use line::{Line, Short};
 use std::io;
 
 // Forty commands of two and three digits.
@@ -10,72 +10,81 @@ const FORTY: [u8; 40] = [
     111, 119, 120, 128, 150, 199, 200, 201, 209, 210, 219, 220, 239, 240, 249, 250, 254, 255,
 ];
 
-const LARGEST: usize = 18446744073709551615;
-
 // A line at the start of a buffer that is long enough for each line here.
 fn print(rt: &impl Print, line: Line, commands: &[u8]) -> io::Result<()> {
     let mut buffer = [0u8; 256];
     match line::put(line, commands, &mut buffer) {
-        Printed::End(end) => rt.write_all(&buffer[..end]),
-        Printed::Short(_) => Ok(()),
+        Ok(end) => rt.write_all(&buffer[..end]),
+        Err(_) => Err(io::Error::other("the line is longer than the buffer")),
     }
 }
 
-fn plan(rt: &impl Print, count: usize, length: usize, commands: &[u8]) -> io::Result<()> {
-    print(rt, Line::Plan { count, length }, commands)
+// Plans of no command, of one and of forty, and the commands left out.
+fn print_plans(rt: &impl Print) -> io::Result<()> {
+    let plans: [(usize, usize, &[u8]); 4] = [
+        (1, 0, b""),
+        (2, 1, b"\x01"),
+        (4096, 40, &FORTY),
+        (4096, 40, b""),
+    ];
+    for (count, length, commands) in plans {
+        print(rt, Line::Plan { count, length }, commands)?;
+    }
+    Ok(())
 }
 
-fn none(rt: &impl Print, count: usize) -> io::Result<()> {
-    print(rt, Line::None { count }, b"")
-}
-
-fn room(rt: &impl Print, count: usize) -> io::Result<()> {
-    print(rt, Line::Room { count }, b"")
-}
-
-fn long(rt: &impl Print, count: usize, length: usize) -> io::Result<()> {
-    print(rt, Line::Long { count, length }, b"")
-}
-
-fn bad(rt: &impl Print, refusal: u8, place: usize) -> io::Result<()> {
-    print(rt, Line::Bad { refusal, place }, b"")
-}
-
-// A word and a number.
-fn say(rt: &impl Print, word: &[u8], n: usize) -> io::Result<()> {
-    rt.write_all(word)?;
-    rt.println(n)
+// The other lines, with the least and the largest numbers.
+fn print_others(rt: &impl Print) -> io::Result<()> {
+    let lines = [
+        Line::None { count: 0 },
+        Line::None { count: 9 },
+        Line::None { count: 10 },
+        Line::Room { count: 255 },
+        Line::Room { count: 4096 },
+        Line::Room { count: 65536 },
+        Line::Long {
+            count: 4096,
+            length: 65536,
+        },
+        Line::Long {
+            count: usize::MAX,
+            length: usize::MAX,
+        },
+        Line::Bad {
+            refusal: 1,
+            place: 0,
+        },
+        Line::Bad {
+            refusal: 9,
+            place: 16407,
+        },
+        Line::Bad {
+            refusal: 255,
+            place: usize::MAX,
+        },
+    ];
+    for line in lines {
+        print(rt, line, b"")?;
+    }
+    Ok(())
 }
 
 // The line ROOM 10 0, put at a place of a buffer of 16 dots: the whole buffer, and the answer.
-fn among_dots(rt: &impl Print, at: usize) -> io::Result<()> {
-    let mut dots = [46u8; 16];
+fn print_among_dots(rt: &impl Print, at: usize) -> io::Result<()> {
+    let mut dots = [b'.'; 16];
     let printed = line::put_at(Line::Room { count: 10 }, b"", &mut dots, at);
     rt.write_all(&dots)?;
     match printed {
-        Printed::End(end) => say(rt, b" ends at ", end),
-        Printed::Short(needed) => say(rt, b" needs ", needed),
+        Ok(end) => println!(rt; " ends at {end}"),
+        Err(Short { needed }) => println!(rt; " needs {needed}"),
     }
 }
 
 fn main(rt: HostRuntime) -> io::Result<()> {
-    plan(&rt, 1, 0, b"")?;
-    plan(&rt, 2, 1, b"\x01")?;
-    plan(&rt, 4096, 40, &FORTY)?;
-    plan(&rt, 4096, 40, b"")?;
-    none(&rt, 0)?;
-    none(&rt, 9)?;
-    none(&rt, 10)?;
-    room(&rt, 255)?;
-    room(&rt, 4096)?;
-    room(&rt, 65536)?;
-    long(&rt, 4096, 65536)?;
-    long(&rt, LARGEST, LARGEST)?;
-    bad(&rt, 1, 0)?;
-    bad(&rt, 9, 16407)?;
-    bad(&rt, 255, LARGEST)?;
-    among_dots(&rt, 0)?;
-    among_dots(&rt, 6)?;
-    among_dots(&rt, 7)?;
-    among_dots(&rt, LARGEST)
+    print_plans(&rt)?;
+    print_others(&rt)?;
+    for at in [0, 6, 7, usize::MAX] {
+        print_among_dots(&rt, at)?;
+    }
+    Ok(())
 }

@@ -1,3 +1,4 @@
 pub mod Numbers
 pub mod Storing
 pub mod Inverse
+pub mod Conversions

@@ -26,7 +26,7 @@ bytes-add (suc j) k n =
     ap (λ (m : ℕ). bytes_of m n) (suc-add j k)
     ∙ ap₂ (λ (q : ℕ) (r : List ℕ). q % 256 ∷ r) (ap (λ (m : ℕ). n / m) (pow-add 256 j k ∙ mul_comm (256 ^ j) (256 ^ k)) ∙ sym (div-div-eq-div-mul n (256 ^ k) (256 ^ j))) (bytes-add j k n)
 
--- how the code stores a number of j + k bytes
+-- a number of j + k bytes, stored as two runs
 pub two_stores : (l : List ℕ) (at j k n : ℕ) → sets (sets l at (bytes_of j (n / 256 ^ k))) (at + j) (bytes_of k n) ≡ sets l at (bytes_of (j + k) n)
 two_stores l at j k n =
     ap (λ (m : ℕ). sets (sets l at (bytes_of j (n / 256 ^ k))) (at + m) (bytes_of k n)) (sym (length-bytes j (n / 256 ^ k)))

@@ -6,7 +6,7 @@ use Rattle.shown.specs.Following.{following, following_from}
 use Rattle.judge.specs.Verdicts.{values_of, JudgedBy}
 use Rattle.judge.specs.declared.Judged.{Judged}
 use Rattle.store.specs.declared.Node.{Node}
-use Rattle.search.specs.Done.{verdict_of, SheetSearched, SearchedHere}
+use Rattle.search.specs.Done.{verdict_of, place_of, SheetSearched, SearchedHere}
 use Rattle.search.specs.declared.Answer.{Answer}
 
 -- where the bytes of a following set begin in the sheet, and how many they are
@@ -24,7 +24,7 @@ abbrev pub judged_numbers : answers.Judged → List ℕ
 judged_numbers j = verdict_number j.verdict ∷ j.place ∷ j.set ∷ j.left ∷ []
 
 abbrev pub search_numbers : Answer → List ℕ
-search_numbers a = verdict_number (verdict_of a.verdict) ∷ a.place ∷ a.count ∷ a.length ∷ []
+search_numbers a = verdict_number (verdict_of a.verdict) ∷ place_of a.verdict ∷ a.count ∷ a.length ∷ []
 
 -- the numbers are those of the judge's answer for the sheet l and the plan p
 pub record JudgedInto (l p numbers : List ℕ) : Type 0 where

@@ -4,77 +4,89 @@
 
 ghost use Rattle.std.specs.Prelude.{◌≡◌, length};
 ghost use Rattle.sheet.specs.Sheet.{sheet_with};
+ghost use Rattle.sheet.specs.Refusals.{number_of};
 ghost use Rattle.sheet.specs.Answers.{reading};
 ghost use Rattle.writer.specs.Written.{writing, written};
-ghost use Rattle.judge.specs.Verdicts.{values_of, ChoiceOf};
-ghost use Rattle.search.specs.Done.{verdict_of};
+ghost use Rattle.judge.specs.Verdicts.{values_of, choice_number, ChoiceOf};
 ghost use Rattle.sheet.specs.Answers.{values_of as reading_numbers};
 ghost use Rattle.writer.specs.Written.{values_of as writing_numbers};
-ghost use Rattle.plugin.specs.Boundary.{verdict_number, following_numbers, judged_numbers, search_numbers, JudgedInto, SearchedInto, SearchedHereInto};
+ghost use Rattle.plugin.specs.Boundary.{following_numbers, judged_numbers, search_numbers, JudgedInto, SearchedInto, SearchedHereInto};
 
-use judge::Judged;
-use search::Answer;
-use sets::{of_word, to_word};
-use sheet::Reading;
+use judge::{Judged, Which};
+use search::{Answer, Verdict};
+use sets::Set;
+use sheet::{Head, Refusal};
 use store::Node;
-use writer::Writing;
 
 // The numbers of an answer.
-fn read_numbers(r: Reading) -> [u64; 6]
-    ensures { result ≡ reading_numbers r }
+fn read_numbers(reading: Result<Head, Refusal>) -> [u64; 6]
+    ensures { result ≡ reading_numbers reading }
 {
-    match r {
-        Reading::Accepted(h) => {
-            let initial = to_word(h.initial);
-            let goal = to_word(h.goal);
-            [0, 0, h.states as u64, h.commands as u64, initial, goal]
+    match reading {
+        Ok(head) => {
+            let initial = u64::from(head.initial);
+            let goal = u64::from(head.goal);
+            [
+                0,
+                0,
+                head.states as u64,
+                head.commands as u64,
+                initial,
+                goal,
+            ]
         }
-        Reading::Refused(f) => [f.number as u64, f.place as u64, 0, 0, 0, 0],
+        Err(refusal) => [number(refusal), refusal.place as u64, 0, 0, 0, 0],
     }
 }
 
-fn write_numbers(w: Writing) -> [u64; 3]
-    ensures { result ≡ writing_numbers w }
+fn write_numbers(writing: Result<usize, Refusal>) -> [u64; 3]
+    ensures { result ≡ writing_numbers writing }
 {
-    match w {
-        Writing::Written(bytes) => [0, 0, bytes as u64],
-        Writing::Refused(f) => [f.number as u64, f.place as u64, 0],
+    match writing {
+        Ok(bytes) => [0, 0, bytes as u64],
+        Err(refusal) => [number(refusal), refusal.place as u64, 0],
     }
 }
 
-fn judged_numbers(j: Judged) -> [u64; 4]
-    ensures { result ≡ judged_numbers (values_of j) }
+fn judged_numbers(judged: Judged) -> [u64; 4]
+    ensures { result ≡ judged_numbers (values_of judged) }
 {
-    let set = to_word(j.set);
-    let verdict = j.verdict;
-    match verdict {
-        judge::Verdict::Good => [0, 0, set, j.left as u64],
-        judge::Verdict::Refused(f) => [f.number as u64, f.place as u64, set, j.left as u64],
+    let set = u64::from(judged.set);
+    let left = u64::from(judged.left);
+    match judged.verdict {
+        Ok(()) => [0, 0, set, left],
+        Err(refusal) => [number(refusal), refusal.place as u64, set, left],
     }
 }
 
-// The number of a search's verdict.
-fn search_number(verdict: search::Verdict) -> u8
-    ensures { result ≡ verdict_number (verdict_of verdict) }
+// The number of a refusal in the table.
+fn number(refusal: Refusal) -> u64
+    ensures { result ≡ number_of refusal.reason }
 {
-    match verdict {
-        search::Verdict::Plan => 0,
-        search::Verdict::NoPlan => 255,
-        search::Verdict::Refused(number) => number,
+    u64::from(refusal.reason.number())
+}
+
+// The number of a choice: 1 the first plan, 2 the second, 0 neither.
+fn number_of_choice(choice: Option<Which>) -> u8
+    ensures { result ≡ choice_number choice }
+{
+    match choice {
+        None => 0,
+        Some(Which::First) => 1,
+        Some(Which::Second) => 2,
     }
 }
 
-// Stores the numbers of a search's answer.
-fn put_search(a: Answer, answer: &mut [u64; 4])
-    ensures { answer.new ≡ search_numbers a }
+fn search_numbers(answer: Answer) -> [u64; 4]
+    ensures { result ≡ search_numbers answer }
 {
-    let verdict = a.verdict;
-    *answer = [
-        search_number(verdict) as u64,
-        a.place as u64,
-        a.count as u64,
-        a.length as u64,
-    ];
+    let count = answer.count as u64;
+    let length = answer.length as u64;
+    match answer.verdict {
+        Verdict::Plan => [0, 0, count, length],
+        Verdict::NoPlan => [255, 0, count, length],
+        Verdict::Refused(refusal) => [number(refusal), refusal.place as u64, count, length],
+    }
 }
 
 // Reads a sheet: number (0 for accepted), place, states, commands, initial set, goal set.
@@ -97,17 +109,21 @@ pub fn potuchlan_write(
     ensures answer_after { answer.new ≡ writing_numbers (writing (sheet_with states commands initial goal given.now) (length out.old)) }
     ensures out_after { out.new ≡ written (sheet_with states commands initial goal given.now) out.old }
 {
-    let initial = of_word(initial);
-    let goal = of_word(goal);
-    *answer = write_numbers(writer::write(states, commands, initial, goal, given, out));
+    let head = Head {
+        states,
+        commands,
+        initial: Set::from(initial),
+        goal: Set::from(goal),
+    };
+    *answer = write_numbers(writer::write(head, given, out));
 }
 
 // Where the bytes of a following set stand in the sheet: offset and length, both 0 where the command or the state is missing or the sheet is refused.
 pub fn potuchlan_following(sheet: &[u8], command: usize, state: usize, answer: &mut [u64; 2])
     ensures { answer.new ≡ following_numbers sheet.now command state }
 {
-    let set = shown::following_span(sheet, command, state);
-    *answer = [set.from as u64, set.length as u64];
+    let span = shown::following_span(sheet, command, state);
+    *answer = [span.from as u64, span.length as u64];
 }
 
 // Judges a plan: number (0 for good), place, set, states still possible.
@@ -117,24 +133,23 @@ pub fn potuchlan_judge(sheet: &[u8], plan: &[u8], answer: &mut [u64; 4])
     *answer = judged_numbers(judge::judge(sheet, plan));
 }
 
-// Which of two plans is the better: 1 the first, 2 the second, 0 neither.
+// Which of two plans is the better: 1 the first, 2 the second, 0 neither. Kept as a number, like all answers here: C takes it.
 pub fn potuchlan_better(sheet: &[u8], first: &[u8], second: &[u8]) -> u8
     ensures { ChoiceOf sheet.now first.now second.now result }
 {
-    judge::choice(sheet, first, second)
+    number_of_choice(judge::choice(sheet, first, second))
 }
 
 // Searches for the shortest plan over a store that is lent: number (0 for a plan, 255 for no plan), place, count, length.
 pub fn potuchlan_search(sheet: &[u8], store: &mut [Node], plan: &mut [u8], answer: &mut [u64; 4])
     ensures { SearchedInto sheet.now store.old store.new plan.old plan.new answer.new }
 {
-    let a = search::search(sheet, store, plan);
-    put_search(a, answer);
+    *answer = search_numbers(search::search(sheet, store, plan));
 }
 
 // The same over a store of 4,096 places that the caller does not see.
 pub fn potuchlan_search_here(sheet: &[u8], plan: &mut [u8], answer: &mut [u64; 4])
     ensures { SearchedHereInto 4096 sheet.now plan.old plan.new answer.new }
 {
-    put_search(search::search_here(sheet, plan), answer);
+    *answer = search_numbers(search::search_here(sheet, plan));
 }

@@ -1,4 +1,5 @@
-// The archive that C and Rust link: each function is the one of `plugin` under the same name, with the same clauses.
+// The archive that C and Rust link: each function is the one of `plugin` under the same name, with the same clauses. Kept beside it: C links a static library, which
+// no crate can name, and the edits and theorems need a crate that can be named.
 #![tactic(auto)]
 
 ghost use Rattle.std.specs.Prelude.{◌≡◌, length};

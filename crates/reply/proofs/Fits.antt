@@ -9,6 +9,7 @@ use native.Mathlib.Nat.{zero-add}
 use native.Mathlib.Decide.{dec_lt}
 use native.Mathlib.Omega.{arith}
 use lib.ListN.{length, get_or, take, replicate, length-take, length-replicate, get_or-eq_default}
+use Rattle.std.specs.Prelude.{Result, Ok, Err}
 use Rattle.meaning.specs.Answers as meaning
 use Rattle.meaning.specs.Answers.{Searched, AllCommands, room}
 use Rattle.meaning.proofs.Places.{get_d_at}
@@ -19,11 +20,9 @@ use Rattle.meaning.proofs.SearchLaws as answers
 use Rattle.meaning.proofs.SearchLaws.{Answered, answered, count_fits}
 use Rattle.sets.specs.Words.{set_of}
 use Rattle.sheet.specs.Sheet.{domain_in}
-use Rattle.sheet.specs.Answers.{reading}
+use Rattle.sheet.specs.Answers.{reading, Reading}
 use Rattle.sheet.specs.declared.Head.{Head}
 use Rattle.sheet.specs.declared.Refusal.{Refusal}
-use Rattle.sheet.specs.declared.Reading.{Reading}
-use Rattle.sheet.specs.declared.Reading.TheVariants as reading-is
 use Rattle.sheet.proofs.RefusedAs.{reading-gives}
 use Rattle.store.specs.declared.Node.{Node}
 use Rattle.store.specs.Nodes.{nothing}
@@ -33,14 +32,16 @@ use Rattle.search.specs.declared.Verdict.TheVariants as verdict-is
 use Rattle.search.specs.declared.Answer.{Answer}
 use Rattle.search.proofs.SheetLaws.{sheet-ready}
 use Rattle.search.proofs.Means.{found_is_first, length_below_count}
-use Rattle.line.specs.declared.Printed.{Printed}
-use Rattle.line.specs.declared.Printed.TheVariants.{End}
+use Rattle.line.specs.declared.Short.{Short}
 use Rattle.line.specs.declared.Line.{Line}
 use Rattle.line.specs.declared.Line.TheVariants as line-is
 use Rattle.line.specs.Lines.{row, PLAN, NONE, ROOM, BAD, line_of, answer_of}
 use Rattle.line.proofs.RowLaws.{length-by_digits}
 use Rattle.line.proofs.PlacedLaws.{enough}
-use Rattle.reply.specs.Replies.{places, verdict_line, line_for, Replied}
+use Rattle.sheet.specs.Refusals.{number_of, refusal}
+use Rattle.sheet.specs.declared.Reason.TheVariants.{LongPlan}
+use Rattle.sheet.proofs.Reasons.{refusal_inj}
+use Rattle.reply.specs.Replies.{places, refusal_line, verdict_line, line_for, Replied}
 use Rattle.reply.proofs.Replying.{refused-bad}
 use Rattle.sheet.proofs.RefusedPlace.{place_below}
 
@@ -82,7 +83,7 @@ store = replicate places nothing
 abbrev buffer : List ℕ
 buffer = replicate places 0
 
-module _ {l : List ℕ} {h : Head} (e : reading l ≡ reading-is.Accepted h) {s : List Node} {p : List ℕ} {a : Answer} (u : SheetSearched l store s buffer p a) where
+module _ {l : List ℕ} {h : Head} (e : reading l ≡ Ok h) {s : List Node} {p : List ℕ} {a : Answer} (u : SheetSearched l store s buffer p a) where
   abbrev done : SearchDone (domain_in l) (set_of h.initial) (set_of h.goal) store s buffer p a
   done = u.accepted e
 
@@ -95,30 +96,31 @@ module _ {l : List ℕ} {h : Head} (e : reading l ≡ reading-is.Accepted h) {s 
   )
 
   -- a refusal can only be 13: a plan that is longer than the buffer would be longer than the count
-  only_thirteen : {n : ℕ} → a.verdict ≡ verdict-is.Refused n → n ≡ 13
-  only_thirteen {n} q = go (answered (set_of h.goal) done.searches.listing (room (length store)) (length buffer) done.searches.answers)
+  only_thirteen : {f : Refusal} → a.verdict ≡ verdict-is.Refused f → number_of f.reason ≡ 13
+  only_thirteen {f} q = go (answered (set_of h.goal) done.searches.listing (room (length store)) (length buffer) done.searches.answers)
     where
-      says : {r : Searched} → done.says ≡ r → r.verdict ≡ meaning.refused n
-      says f = ap (λ (o : Searched). o.verdict) (sym (done.answer_is ∙ f)) ∙ ap verdict_of q
+      says : {r : Searched} → done.says ≡ r → r.verdict ≡ meaning.refused (number_of f.reason)
+      says e = ap (λ (o : Searched). o.verdict) (sym (done.answer_is ∙ e)) ∙ ap verdict_of q
 
-      go : Answered (set_of h.goal) done.searches.listing (room (length store)) (length buffer) done.says → n ≡ 13
-      go (answers.plan b k m f) = absurd (plan_not_refused (says f))
-      go (answers.too_long b k m f) =
-          let shorter = length_below_count l e u (inr (q ∙ ap verdict-is.Refused (sym (refused_inj (says f))))) in
-          absurd (omega (arith, m, length-replicate places zero, ap (λ (o : Searched). o.plan_length) (done.answer_is ∙ f), shorter, count-at-most))
-      go (answers.no_plan b k f) = absurd (none_not_refused (says f))
-      go (answers.no_room b k f) = sym (refused_inj (says f))
+      go : Answered (set_of h.goal) done.searches.listing (room (length store)) (length buffer) done.says → number_of f.reason ≡ 13
+      go (answers.plan b k m e) = absurd (plan_not_refused (says e))
+      go (answers.too_long b k m i) =
+          let long : f ≡ refusal LongPlan f.place = refusal_inj f (refusal LongPlan f.place) (sym (refused_inj (says i))) refl in
+          let shorter = length_below_count l e u (inr (q ∙ ap verdict-is.Refused long)) in
+          absurd (omega (arith, m, length-replicate places zero, ap (λ (o : Searched). o.plan_length) (done.answer_is ∙ i), shorter, count-at-most))
+      go (answers.no_plan b k e) = absurd (none_not_refused (says e))
+      go (answers.no_room b k e) = sym (refused_inj (says e))
 
   -- the line of each verdict
   abbrev line_of_answer : Verdict → Line
-  line_of_answer v = verdict_line v a.place a.count a.length
+  line_of_answer v = verdict_line v a.count a.length
 
   plan-fits : a.verdict ≡ verdict-is.Plan → Fits (line_of_answer verdict-is.Plan) (take a.length p)
   plan-fits q =
       let r = sheet-ready l e in
       let solves = good_solves (domain_in l) r.well_formed r.start.within (found_is_first l e u q).good in
       let commands = gives-commands (domain_in l) r.well_formed r.start (take a.length p) solves.gives in
-      let shorter : a.length < a.count = length_below_count l e u (inl q) in
+      let shorter : a.length < a.count = length_below_count l e u {k = 0} (inl q) in
       let fields = both_below (10 ^ 4) {m = a.count} {n = a.length} (omega (arith, count-at-most)) (omega (arith, count-at-most)) in
       let most = length-by_digits 3 1 PLAN (a.count ∷ a.length ∷ []) (take a.length p) fields (commands_below (take a.length p) commands r.few) in
       record { at_most = omega (arith, count-at-most, length-take a.length p); not_long = tt }
@@ -126,20 +128,20 @@ module _ {l : List ℕ} {h : Head} (e : reading l ≡ reading-is.Accepted h) {s 
   accepted-fits : (v : Verdict) → a.verdict ≡ v → Fits (line_of_answer v) (take a.length p)
   accepted-fits verdict-is.Plan q = plan-fits q
   accepted-fits verdict-is.NoPlan q = record { at_most = two_numbers NONE (omega arith) (omega (arith, count-at-most)) (omega arith); not_long = tt }
-  accepted-fits (verdict-is.Refused n) q =
-      subst (λ (k : ℕ). Fits (line_of_answer (verdict-is.Refused k)) (take a.length p)) (sym (only_thirteen q))
+  accepted-fits (verdict-is.Refused f) q =
+      subst (λ (n : ℕ). Fits (refusal_line n f.place a.count a.length) (take a.length p)) (sym (only_thirteen q))
       (record { at_most = two_numbers ROOM (omega arith) (omega (arith, count-at-most)) (omega arith); not_long = tt })
 
 -- ---- any sheet
 
-refused-fits : (l : List ℕ) {f : Refusal} {s : List Node} {p : List ℕ} {a : Answer} → reading l ≡ reading-is.Refused f → SheetRefused f store s buffer p a → (cs : List ℕ) → Fits (line_for a) cs
+refused-fits : (l : List ℕ) {f : Refusal} {s : List Node} {p : List ℕ} {a : Answer} → reading l ≡ Err f → SheetRefused f store s buffer p a → (cs : List ℕ) → Fits (line_for a) cs
 refused-fits l {f} e u cs =
     let g = reading-gives l f e in
-    let bad = refused-bad f.number f.place 0 0 (λ q. omega (arith, g.1, q)) (λ q. omega (arith, g.1, q)) in
+    let bad = refused-bad (number_of f.reason) f.place 0 0 (λ q. omega (arith, g.1, q)) (λ q. omega (arith, g.1, q)) in
     subst (λ (x : Line). Fits x cs) (bad ∙ ap line_for (sym u.answer_is))
     (record { at_most = two_numbers BAD (omega arith) (omega (arith, g.1)) (omega (arith, place_below l e)); not_long = tt })
 
-module _ {sheet before after : List ℕ} {r : Printed} (u : Replied sheet before after r) where
+module _ {sheet before after : List ℕ} {r : Result ℕ Short} (u : Replied sheet before after r) where
   abbrev commands : List ℕ
   commands = take u.answer.length u.plan
 
@@ -147,8 +149,8 @@ module _ {sheet before after : List ℕ} {r : Printed} (u : Replied sheet before
   fits = go (reading sheet) refl
     where
       go : (x : Reading) → reading sheet ≡ x → Fits (line_for u.answer) commands
-      go (reading-is.Accepted h) e = accepted-fits e u.searched.searched u.answer.verdict refl
-      go (reading-is.Refused f) e = refused-fits sheet e (u.searched.searched.refused e) commands
+      go (Ok h) e = accepted-fits e u.searched.searched u.answer.verdict refl
+      go (Err f) e = refused-fits sheet e (u.searched.searched.refused e) commands
 
   -- the bytes of the line that is printed
   abbrev pub line : List ℕ
@@ -158,8 +160,8 @@ module _ {sheet before after : List ℕ} {r : Printed} (u : Replied sheet before
   line_at_most = fits.at_most
 
   -- a buffer of 12,300 bytes gets the whole line
-  pub always_fits : 12300 ≤ length before → r ≡ End (length line)
-  always_fits h = enough u.printed (omega (arith, h, line_at_most)) ∙ ap End (zero-add (length line))
+  pub always_fits : 12300 ≤ length before → r ≡ Ok (length line)
+  always_fits h = enough u.printed (omega (arith, h, line_at_most)) ∙ ap Ok (zero-add (length line))
 
   -- a plan that is found always fits into the plan buffer
   pub never_long : (count long : ℕ) → line_for u.answer ≢ line-is.Long count long

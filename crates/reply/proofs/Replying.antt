@@ -9,11 +9,12 @@ use native.Mathlib.Omega.{arith}
 use lib.ListN.{length, take, replicate}
 use lib.Seq.{take_all}
 use borrow.Author.Tests.{eq-eqb, ne_eqb}
+use Rattle.std.specs.Prelude.{Result}
 use Rattle.search.specs.declared.Answer.{Answer}
 use Rattle.search.specs.Done.{SearchedHere}
 use Rattle.line.specs.declared.Line.{Line}
 use Rattle.line.specs.declared.Line.TheVariants.{Room, Long, Bad}
-use Rattle.line.specs.declared.Printed.{Printed}
+use Rattle.line.specs.declared.Short.{Short}
 use Rattle.line.specs.Lines.{line_of, answer_of}
 use Rattle.line.specs.Placing.{Placed}
 use Rattle.line.proofs.PlacedLaws.{one_result}
@@ -28,7 +29,7 @@ all_there k n p h e = go (dec_le k places)
     go (yes l) = let q : n ≡ k = omega (arith, e, l) in ap (λ (i : ℕ). take i p) q
     go (no l) = take_all n p (omega (arith, h, e, l)) ∙ sym (take_all k p (omega (arith, h, l)))
 
-pub replied : (sheet before after plan : List ℕ) (a : Answer) (line : Line) (n : ℕ) (r : Printed) → SearchedHere places sheet (replicate places 0) plan a
+pub replied : (sheet before after plan : List ℕ) (a : Answer) (line : Line) (n : ℕ) (r : Result ℕ Short) → SearchedHere places sheet (replicate places 0) plan a
     → length plan ≡ places → line ≡ line_for a → n ≡ min a.length places → Placed (line_of (answer_of line (take n plan))) 0 before after r → Replied sheet before after r
 replied sheet before after plan a line n r s h e m p = record {
   plan = plan;
@@ -52,7 +53,7 @@ module _ (number place count long : ℕ) where
 
 -- ---- one line, and one output
 
-pub reply_unique : {sheet before after other : List ℕ} {r q : Printed} → Replied sheet before after r → Replied sheet before other q → (r ≡ q) × (after ≡ other)
+pub reply_unique : {sheet before after other : List ℕ} {r q : Result ℕ Short} → Replied sheet before after r → Replied sheet before other q → (r ≡ q) × (after ≡ other)
 reply_unique {sheet} {before} {after} {other} {r} {q} u v =
     let s = search-here_unique u.searched v.searched in
     one_result u.printed (subst₂ (λ (a : Answer) (p : List ℕ). Placed (line_of (answer_of (line_for a) (take a.length p))) 0 before other q) (sym s.0) (sym s.1) v.printed)

@@ -1,11 +1,12 @@
 -- The line that is printed for a sheet: that of the search's answer, over a store of 4,096 places and a plan buffer of 4,096 bytes.
-use Rattle.std.specs.Prelude.{cond, List, ℕ, eqb, take, replicate}
+use Rattle.std.specs.Prelude.{cond, List, ℕ, eqb, take, replicate, Result}
+use Rattle.sheet.specs.Refusals.{number_of}
 use Rattle.search.specs.declared.Verdict.TheVariants as verdict-is
 use Rattle.search.specs.declared.Answer as search-answer
 use Rattle.search.specs.Done.{SearchedHere}
 use Rattle.line.specs.declared.Line.{Line}
 use Rattle.line.specs.declared.Line.TheVariants.{Plan, None, Room, Long, Bad}
-use Rattle.line.specs.declared.Printed.{Printed}
+use Rattle.line.specs.declared.Short.{Short}
 use Rattle.line.specs.Lines.{line_of, answer_of}
 use Rattle.line.specs.Placing.{Placed}
 
@@ -13,20 +14,20 @@ use Rattle.line.specs.Placing.{Placed}
 abbrev pub refusal_line : ℕ → ℕ → ℕ → ℕ → Line
 refusal_line number place count long = cond (eqb number 13) (Room count) (cond (eqb number 14) (Long count long) (Bad number place))
 
-abbrev pub verdict_line : verdict-is.the_data → ℕ → ℕ → ℕ → Line
-verdict_line verdict-is.Plan place count long = Plan count long
-verdict_line verdict-is.NoPlan place count long = None count
-verdict_line (verdict-is.Refused number) place count long = refusal_line number place count long
+abbrev pub verdict_line : verdict-is.the_data → ℕ → ℕ → Line
+verdict_line verdict-is.Plan count long = Plan count long
+verdict_line verdict-is.NoPlan count long = None count
+verdict_line (verdict-is.Refused f) count long = refusal_line (number_of f.reason) f.place count long
 
 -- the line of an answer
 abbrev pub line_for : search-answer.Answer → Line
-line_for a = verdict_line a.verdict a.place a.count a.length
+line_for a = verdict_line a.verdict a.count a.length
 
 abbrev pub places : ℕ
 places = 4096
 
 -- what is printed for the sheet: the output before and after, and the answer of printing
-pub record Replied (sheet before after : List ℕ) (r : Printed) : Type 0 where
+pub record Replied (sheet before after : List ℕ) (r : Result ℕ Short) : Type 0 where
   pub plan : List ℕ
   pub answer : search-answer.Answer
   pub searched : SearchedHere places sheet (replicate places 0) plan answer

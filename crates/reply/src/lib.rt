@@ -1,26 +1,27 @@
 // From a sheet's bytes to the line that is printed for it.
 #![tactic(auto)]
 
-ghost use Rattle.std.specs.Prelude.{◌≡◌, min};
+ghost use Rattle.std.specs.Prelude.{◌≡◌};
+ghost use Rattle.sheet.specs.Refusals.{number_of};
 ghost use Rattle.reply.specs.Replies.{line_for, refusal_line, Replied};
 
-use line::{Line, Printed};
+use line::{Line, Short};
 use search::{Answer, Verdict};
+use sheet::{Reason, Refusal};
 
 const PLACES: usize = 4096;
 
-fn refusal_line(number: u8, place: usize, count: usize, length: usize) -> Line
-    ensures { result ≡ refusal_line number place count length }
+// The line of a refusal: that of no room and that of too long a plan have words of their own.
+fn refusal_line(refusal: Refusal, count: usize, length: usize) -> Line
+    ensures { result ≡ refusal_line (number_of refusal.reason) refusal.place count length }
 {
-    if number == 13 {
-        return Line::Room { count };
-    }
-    if number == 14 {
-        return Line::Long { count, length };
-    }
-    Line::Bad {
-        refusal: number,
-        place,
+    match refusal.reason {
+        Reason::NoRoom => Line::Room { count },
+        Reason::LongPlan => Line::Long { count, length },
+        reason => Line::Bad {
+            refusal: reason.number(),
+            place: refusal.place,
+        },
     }
 }
 
@@ -30,26 +31,19 @@ fn line_for(answer: Answer) -> Line
 {
     let count = answer.count;
     let length = answer.length;
-    let verdict = answer.verdict;
-    match verdict {
+    match answer.verdict {
         Verdict::Plan => Line::Plan { count, length },
         Verdict::NoPlan => Line::None { count },
-        Verdict::Refused(number) => refusal_line(number, answer.place, count, length),
+        Verdict::Refused(refusal) => refusal_line(refusal, count, length),
     }
 }
 
-fn at_most(n: usize, most: usize) -> usize
-    ensures { result ≡ min n most }
-{
-    if n < most { n } else { most }
-}
-
 // Searches a sheet and puts the line of the answer at the start of the output.
-pub fn put(sheet: &[u8], out: &mut [u8]) -> Printed
+pub fn put(sheet: &[u8], out: &mut [u8]) -> Result<usize, Short>
     ensures { Replied sheet.now out.old out.new result }
 {
     let mut plan = [0u8; PLACES];
     let answer = search::search_here(sheet, &mut plan);
-    let written = at_most(answer.length, PLACES);
-    line::put(line_for(answer), &plan[0..written], out)
+    let written = answer.length.min(PLACES);
+    line::put(line_for(answer), &plan[..written], out)
 }

@@ -3,7 +3,6 @@
 
 ghost use Rattle.std.specs.Prelude.{◌≤◌, length, IfOk};
 
-use line::Printed;
 use std::io;
 use std::io::Read;
 
@@ -11,6 +10,7 @@ use std::io::Read;
 const LONGEST: usize = 12300;
 
 // Reads until the buffer is full or the input ends. How many bytes now stand at the start of the buffer.
+// Kept as a loop over `read`: `read_exact` fails where the input ends early, and `read_to_end` fills a `Vec`, which is on the heap.
 fn read_full<R: Read>(from: &mut R, buffer: &mut [u8]) -> io::Result<usize>
     ensures { IfOk result (λ n. n ≤ length buffer.new) }
 {
@@ -29,13 +29,6 @@ fn main(rt: HostRuntime) -> io::Result<()> {
     let mut input = [0u8; 16408];
     let n = read_full(&mut rt.stdin(), &mut input)?;
     let mut out = [0u8; LONGEST];
-    match reply::put(&input[0..n], &mut out) {
-        Printed::End(end) => {
-            if end <= LONGEST {
-                rt.write_all(&out[0..end])?;
-            }
-        }
-        Printed::Short(_) => {}
-    }
-    Ok(())
+    let end = reply::put(&input[..n], &mut out).unwrap();
+    rt.write_all(&out[..end])
 }

@@ -4,6 +4,7 @@ use mathlib.Core.Path.{◌≡◌, refl, sym, ap, subst}
 use mathlib.Core.List.{map}
 use Prim.Native.Nat.{ℕ, ◌*◌}
 use lib.ListN.{length}
+use Rattle.std.specs.Prelude.{Ok}
 use Rattle.meaning.specs.Domain.{Domain}
 use Rattle.meaning.specs.Listing.{At}
 use Rattle.meaning.specs.Examples.{Bench, domain_of, Asked, Example, RightFor, examples}
@@ -12,12 +13,9 @@ use Rattle.meaning.proofs.BenchExamples.{examples_right}
 use Rattle.sets.specs.Words.{set_of}
 use Rattle.sets.proofs.Values.{set_for_lem}
 use Rattle.sheet.specs.Sheet.{Sheet, sheet_with, Valid, encode, domain, domain_in}
-use Rattle.sheet.specs.Refusals.{verdict, head_rows, set_rows, sheet_rows}
+use Rattle.sheet.specs.Refusals.{verdict, head_rows, set_rows, sheet_rows, Check, check, passes}
 use Rattle.sheet.specs.Answers.{head_of, reading}
 use Rattle.sheet.specs.declared.Counted.TheVariants.{Given}
-use Rattle.sheet.specs.declared.Check.{Check}
-use Rattle.sheet.specs.declared.Check.TheVariants.{Passed, Failed}
-use Rattle.sheet.specs.declared.Reading.TheVariants.{Accepted}
 use Rattle.sheet.proofs.ValidLaws.{valid}
 use Rattle.sheet.proofs.RoundTrip.{sheet_of_encode}
 use Rattle.sheet.proofs.Accepted.{encoded_accepted}
@@ -33,9 +31,9 @@ same_domain t = refl
 -- ---- the sheets are valid
 
 checks : Example → Check
-checks e = verdict Failed Passed (sheet_rows (Given (length e.sheet.sets)) (sheet_of e.sheet))
+checks e = check (sheet_rows (Given (length e.sheet.sets)) (sheet_of e.sheet))
 
-all_pass : map checks examples ≡ map (λ (e : Example). Passed) examples
+all_pass : map checks examples ≡ map (λ (e : Example). passes) examples
 unfolding checks verdict head_rows set_rows
 all_pass = refl
 
@@ -46,14 +44,14 @@ example_valid : {k : ℕ} {e : Example} → At examples k e → Valid (sheet_of 
 unfolding checks
 example_valid {e = e} u = valid (Given (length e.sheet.sets)) (sheet_of e.sheet)
     (map_same (λ (x : Example). length x.sheet.sets) (λ (x : Example). x.sheet.commands * x.sheet.states) all_complete u)
-    (record { passes = map_same checks (λ (x : Example). Passed) all_pass u })
+    (record { passes = map_same checks (λ (x : Example). passes) all_pass u })
 
 -- ---- the statement
 
 -- the sheet is valid and its bytes are accepted, and the reply is right by the sheet, and by what is read from the bytes
 pub record RightOf (s : Sheet) (a : Asked) : Type 0 where
   pub is_valid : Valid s
-  pub accepted : reading (encode s) ≡ Accepted (head_of s)
+  pub accepted : reading (encode s) ≡ Ok (head_of s)
   pub by-sheet : RightFor (domain s) s.initial s.goal a
   pub by_bytes : RightFor (domain_in (encode s)) (set_of (head_of s).initial) (set_of (head_of s).goal) a
 

@@ -24,12 +24,14 @@ use Rattle.sets.specs.Words.{IsValue}
 use Rattle.store.specs.Nodes.{node, nothing, node_at, meant, node_for}
 use Rattle.store.specs.Paths.{Path, start, step}
 use Rattle.explore.specs.Ready.{Ready}
-use Rattle.explore.specs.Turns.{ends_plan, ends_no_plan, ends_no_room, Stored, Ended, Explored, LastInside}
+use Rattle.explore.specs.Turns.{Stored, Ended, Explored, LastInside}
+use Rattle.explore.specs.declared.Ending.{Ending}
+use Rattle.explore.specs.declared.Ending.TheVariants as ending
 use Rattle.search.specs.Done.{searched_of, answer, SearchDone}
-use Rattle.search.specs.Endings.{Finished, CanRead}
-use Rattle.search.specs.declared.Verdict.TheVariants.{Plan, NoPlan, Refused}
+use Rattle.search.specs.Endings.{Finished, CanRead, no_room_for, long_plan as long_answer}
+use Rattle.search.specs.declared.Verdict.TheVariants.{Plan, NoPlan}
 use Rattle.search.specs.declared.Answer.{Answer}
-use Rattle.explore.specs.declared.Turn.{Turn}
+use Rattle.explore.specs.declared.End.{End}
 
 -- ---- the way back
 
@@ -56,7 +58,7 @@ module _ {D : Domain} {x count : ℕ} {l : List Node} (r : Ready D x) (s : Store
   way_back {k} {e} c u = back (suc k) k e (omega arith) c u
 
 -- a plan that was found can be read back
-module _ {D : Domain} {x g room : ℕ} {t : Turn} {l : List Node} (v : Ended D x g room t l) where
+module _ {D : Domain} {x g room : ℕ} {t : End} {l : List Node} (v : Ended D x g room t l) where
   plan_back : (i : LastInside D x g t.count) → Path l (t.count - 1) i.entry.seq
   plan_back i = subst (λ (k : ℕ). Path l k i.entry.seq) (omega (arith, i.is_last)) (way_back v.ready v.stored (omega (arith, v.fits, v.there)) (omega (arith, i.is_last)) i.first.at_place)
 
@@ -81,9 +83,9 @@ own_values (suc n) (m ∷ l) f = λ i. node (f 0 (omega arith) i) m.parent m.com
 
 -- ---- the answer
 
-module _ {D : Domain} {x g : ℕ} {store store' : List Node} {t : Turn} {plan plan' : List ℕ} {a : Answer}
+module _ {D : Domain} {x g : ℕ} {store store' : List Node} {t : End} {plan plan' : List ℕ} {a : Answer}
     (v : Explored D x g (room (length store)) 0 store store' t) (f : Finished store' t plan plan' a) where
-  -- from the values that `meaning` asks for, with the count that the turn has
+  -- from the values that `meaning` asks for, with the count at the end
   with_says : (r : Searched) → r.count ≡ t.count → Answers (listing D x) g (room (length store)) (length plan) r → searched_of a r.written ≡ r → plan' ≡ r.written ++ drop (length r.written) plan
       → SearchDone D x g store store' plan plan' a
   with_says r c u q p = record {
@@ -102,9 +104,9 @@ module _ {D : Domain} {x g : ℕ} {store store' : List Node} {t : Turn} {plan pl
   }
 
   pub done : SearchDone D x g store store' plan plan' a
-  done = by_kind t.kind refl
+  done = by_ending t.ending refl
     where
-      found-plan : t.kind ≡ ends_plan → SearchDone D x g store store' plan plan' a
+      found-plan : t.ending ≡ ending.Plan → SearchDone D x g store store' plan plan' a
       found-plan z = fits (dec_le (length i.entry.seq) (length plan))
         where
           i : LastInside D x g t.count
@@ -120,29 +122,28 @@ module _ {D : Domain} {x g : ℕ} {store store' : List Node} {t : Turn} {plan pl
           fits (yes h) =
               let w = f.plan z (plan_back v.ended i) h in
               with_says (found i.place i.entry.seq) last (answers-plan g (listing D x) (room (length store)) (length plan) i.first below h)
-              (ap (λ (b : Answer). searched_of b i.entry.seq) w.0 ∙ ap (λ (n : ℕ). searched_of (answer Plan 0 n (length i.entry.seq)) i.entry.seq) (sym last)) w.1
+              (ap (λ (b : Answer). searched_of b i.entry.seq) w.0 ∙ ap (λ (n : ℕ). searched_of (answer Plan n (length i.entry.seq)) i.entry.seq) (sym last)) w.1
           fits (no h) =
               let h' = lt_of_not-le h in
               let w = f.too_long z (plan_back v.ended i) h' in
               with_says (long_plan i.place i.entry.seq) last (answers_too_long g (listing D x) (room (length store)) (length plan) i.first below h')
-              (ap (λ (b : Answer). searched_of b []) w.0 ∙ ap (λ (n : ℕ). searched_of (answer (Refused 14) (length i.entry.seq) n (length i.entry.seq)) []) (sym last)) w.1
+              (ap (λ (b : Answer). searched_of b []) w.0 ∙ ap (λ (n : ℕ). searched_of (long_answer n (length i.entry.seq)) []) (sym last)) w.1
 
-      no_plan : t.kind ≡ ends_no_plan → SearchDone D x g store store' plan plan' a
+      no_plan : t.ending ≡ ending.NoPlan → SearchDone D x g store store' plan plan' a
       no_plan z =
           let i = v.ended.no_plan z in
           let w = f.no_plan z in
           with_says (none_of (length (listing D x))) (sym i.are_all) (answers_no_plan g (listing D x) (room (length store)) (length plan) i.none_inside (omega (arith, i.are_all, v.ended.fits)))
-          (ap (λ (b : Answer). searched_of b []) w.0 ∙ ap (λ (n : ℕ). searched_of (answer NoPlan 0 n 0) []) i.are_all) w.1
+          (ap (λ (b : Answer). searched_of b []) w.0 ∙ ap (λ (n : ℕ). searched_of (answer NoPlan n 0) []) i.are_all) w.1
 
-      no_room : t.kind ≡ ends_no_room → SearchDone D x g store store' plan plan' a
+      no_room : t.ending ≡ ending.NoRoom → SearchDone D x g store store' plan plan' a
       no_room z =
           let i = v.ended.no_room z in
           let w = f.no_room z in
           with_says (out_of_room (room (length store))) (sym i.is_full) (answers_no_room g (listing D x) (room (length store)) (length plan) i.none_inside i.more)
-          (ap (λ (b : Answer). searched_of b []) w.0 ∙ ap (λ (n : ℕ). searched_of (answer (Refused 13) 0 n 0) []) i.is_full) w.1
+          (ap (λ (b : Answer). searched_of b []) w.0 ∙ ap (λ (n : ℕ). searched_of (no_room_for n) []) i.is_full) w.1
 
-      by_kind : (k : ℕ) → t.kind ≡ k → SearchDone D x g store store' plan plan' a
-      by_kind zero z = found-plan z
-      by_kind (suc zero) z = no_plan z
-      by_kind (suc (suc zero)) z = no_room z
-      by_kind (suc (suc (suc k))) z = absurd (omega (arith, v.ended.kinds, z))
+      by_ending : (e : Ending) → t.ending ≡ e → SearchDone D x g store store' plan plan' a
+      by_ending ending.Plan z = found-plan z
+      by_ending ending.NoPlan z = no_plan z
+      by_ending ending.NoRoom z = no_room z

@@ -7,6 +7,7 @@ use native.Mathlib.Nat.{lt_of_lt_of_le, le_trans}
 use native.Mathlib.Omega.{arith}
 use lib.ListN.{length, take, drop}
 use lib.Seq.{length-take-le, take-take}
+use Rattle.std.specs.Prelude.{Ok}
 use Rattle.meaning.specs.Domain.{Domain}
 use Rattle.meaning.specs.Walk.{step}
 use Rattle.meaning.specs.Listing as listing
@@ -19,10 +20,11 @@ use Rattle.meaning.proofs.SearchLaws as answers
 use Rattle.meaning.proofs.SearchLaws.{Answered, answered, answers_unique, larger_room, answers-plan, answers_too_long, answers_no_plan}
 use Rattle.sheet.specs.Answers.{reading}
 use Rattle.sheet.specs.declared.Head.{Head}
-use Rattle.sheet.specs.declared.Reading.TheVariants.{Accepted}
 use Rattle.store.specs.declared.Node.{Node}
 use Rattle.store.specs.Nodes.{node_for}
 use Rattle.explore.specs.Ready.{Ready}
+use Rattle.sheet.specs.Refusals.{refusal}
+use Rattle.sheet.specs.declared.Reason.TheVariants.{NoRoom}
 use Rattle.search.specs.Done.{SearchDone, SheetSearched}
 use Rattle.search.specs.declared.Verdict.TheVariants.{Refused}
 use Rattle.search.specs.declared.Answer.{Answer}
@@ -97,9 +99,9 @@ module _ {D : Domain} {x g : ℕ} (r : Ready D x) {store s more t : List Node} {
       records = stores_unique (step D) x u.searches.is_listing.prefix (fewer grow larger) u.searches.store
 
   -- and the answer is the same, but for 13
-  pub answer_stays : (a.verdict ≡ Refused 13) ⊎ ((b ≡ a) × (q ≡ p))
+  pub answer_stays : (a.verdict ≡ Refused (refusal NoRoom 0)) ⊎ ((b ≡ a) × (q ≡ p))
   answer_stays = ⊎_elim
-      (λ e. inl (verdict_inj a.verdict (Refused 13) (ap (λ (o : Searched). o.verdict) (u.answer_is ∙ e))))
+      (λ e. inl (verdict_inj a.verdict (Refused (refusal NoRoom 0)) (ap (λ (o : Searched). o.verdict) (u.answer_is ∙ e)) (ap (λ (o : Searched). o.place) (u.answer_is ∙ e))))
       (λ w.
       let e : v.says ≡ u.says = answers_unique g u.searches.listing (room (length more)) (length plan) there w in
       inr (
@@ -110,10 +112,10 @@ module _ {D : Domain} {x g : ℕ} (r : Ready D x) {store s more t : List Node} {
 
 -- ---- the search of a sheet
 
-module _ (l : List ℕ) {h : Head} (e : reading l ≡ Accepted h) {store s more t : List Node} {plan p q : List ℕ} {a b : Answer}
+module _ (l : List ℕ) {h : Head} (e : reading l ≡ Ok h) {store s more t : List Node} {plan p q : List ℕ} {a b : Answer}
     (u : SheetSearched l store s plan p a) (v : SheetSearched l more t plan q b) (m : length store ≤ length more) where
   pub larger_store_goes_on : (a.count ≤ b.count) × (take a.count t ≡ take a.count s)
   larger_store_goes_on = store_goes_on (sheet-ready l e) (u.accepted e) (v.accepted e) m
 
-  pub larger_store_answers : (a.verdict ≡ Refused 13) ⊎ ((b ≡ a) × (q ≡ p))
+  pub larger_store_answers : (a.verdict ≡ Refused (refusal NoRoom 0)) ⊎ ((b ≡ a) × (q ≡ p))
   larger_store_answers = answer_stays (sheet-ready l e) (u.accepted e) (v.accepted e) m

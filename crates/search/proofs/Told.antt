@@ -4,15 +4,15 @@ use mathlib.Core.Path.{◌≡◌, refl, sym, ap, ◌∙◌}
 use mathlib.Core.List.{List}
 use Prim.Native.Nat.{ℕ}
 use lib.ListN.{take}
+use Rattle.std.specs.Prelude.{Err, Ok}
 use Rattle.meaning.specs.Runs.{Good}
 use Rattle.meaning.proofs.Meanings.{FirstGood}
 use Rattle.sets.specs.Words.{set_of}
 use Rattle.sheet.specs.Sheet.{domain_in}
-use Rattle.sheet.specs.Answers.{reading}
+use Rattle.sheet.specs.Answers.{reading, Reading}
 use Rattle.sheet.specs.declared.Head.{Head}
-use Rattle.sheet.specs.declared.Reading.{Reading}
-use Rattle.sheet.specs.declared.Reading.TheVariants as reading-is
 use Rattle.store.specs.declared.Node.{Node}
+use Rattle.sheet.specs.declared.Refusal.{Refusal}
 use Rattle.search.specs.Done.{SheetSearched}
 use Rattle.search.specs.declared.Verdict.TheVariants.{Plan, NoPlan, Refused}
 use Rattle.search.specs.declared.Answer.{Answer}
@@ -22,16 +22,16 @@ use Rattle.search.proofs.Means.{found_is_first, no_plan_is_good}
 -- the sheet is accepted, with that head
 pub record AcceptedAs (l : List ℕ) : Type 0 where
   pub head : Head
-  pub accepted : reading l ≡ reading-is.Accepted head
+  pub accepted : reading l ≡ Ok head
 
 module _ (l : List ℕ) {store s : List Node} {plan p : List ℕ} {a : Answer} (u : SheetSearched l store s plan p a) where
   -- a verdict that is no refusal
-  no_refusal : ((n : ℕ) → ¬ (Refused n ≡ a.verdict)) → AcceptedAs l
+  no_refusal : ((f : Refusal) → ¬ (Refused f ≡ a.verdict)) → AcceptedAs l
   no_refusal ne = go (reading l) refl
     where
       go : (r : Reading) → reading l ≡ r → AcceptedAs l
-      go (reading-is.Accepted h) e = record { head = h; accepted = e }
-      go (reading-is.Refused f) e = absurd (ne f.number (sym (ap (λ (o : Answer). o.verdict) (u.refused e).answer_is)))
+      go (Ok h) e = record { head = h; accepted = e }
+      go (Err f) e = absurd (ne f (sym (ap (λ (o : Answer). o.verdict) (u.refused e).answer_is)))
 
   pub plan_tells : a.verdict ≡ Plan → (t : AcceptedAs l) × FirstGood (domain_in l) (set_of t.head.initial) (set_of t.head.goal) (take a.length p)
   plan_tells q = let t = no_refusal (λ n e. plan_not_refused (sym (e ∙ q))) in (t, found_is_first l t.accepted u q)

@@ -4,6 +4,7 @@ use mathlib.Core.Path.{◌≡◌, refl, sym, ap, ap₂, ◌∙◌}
 use mathlib.Core.List.{List, ◌++◌, map}
 use Prim.Native.Nat.{ℕ}
 use lib.ListN.{length, take, drop, take-append-drop}
+use Rattle.std.specs.Prelude.{Err, Ok}
 use Rattle.meaning.proofs.Tests.{clash}
 use Rattle.meaning.specs.Domain.{Domain}
 use Rattle.meaning.specs.Answers.{Searched, room}
@@ -11,13 +12,13 @@ use Rattle.meaning.specs.Enumeration as enumeration
 use Rattle.meaning.specs.Computed as computed
 use Rattle.meaning.proofs.JudgeLaws.{refused_inj}
 use Rattle.meaning.proofs.Meanings.{search_unique, search_exists}
-use Rattle.sheet.specs.Answers.{reading}
-use Rattle.sheet.specs.declared.Reading.{Reading}
-use Rattle.sheet.specs.declared.Reading.TheVariants as reading-is
+use Rattle.sheet.specs.Answers.{reading, Reading}
 use Rattle.store.specs.declared.Node.{Node}
 use Rattle.store.specs.Nodes.{node_for}
 use Rattle.explore.specs.Ready.{Ready}
-use Rattle.search.specs.Done.{verdict_of, searched_of, SearchDone, SheetSearched, SearchedHere}
+use Rattle.sheet.specs.declared.Refusal.{Refusal}
+use Rattle.sheet.proofs.Reasons.{refusal_inj}
+use Rattle.search.specs.Done.{verdict_of, place_of, searched_of, SearchDone, SheetSearched, SearchedHere}
 use Rattle.search.specs.declared.Verdict.{Verdict}
 use Rattle.search.specs.declared.Verdict.TheVariants.{Plan, NoPlan, Refused}
 use Rattle.search.specs.declared.Answer.{Answer}
@@ -25,30 +26,29 @@ use Rattle.search.proofs.SheetLaws.{sheet-ready}
 
 -- ---- the values tell two of each kind apart
 
-pub plan_not_refused : {n : ℕ} → ¬ (Plan ≡ Refused n)
+pub plan_not_refused : {f : Refusal} → ¬ (Plan ≡ Refused f)
 plan_not_refused e = clash (cc)
 
 pub plan_not_none : ¬ (Plan ≡ NoPlan)
 plan_not_none e = clash (cc)
 
-pub none_not_refused : {n : ℕ} → ¬ (NoPlan ≡ Refused n)
+pub none_not_refused : {f : Refusal} → ¬ (NoPlan ≡ Refused f)
 none_not_refused e = clash (cc)
 
-pub verdict_inj : (v w : Verdict) → verdict_of v ≡ verdict_of w → v ≡ w
-verdict_inj Plan Plan e = refl
-verdict_inj Plan NoPlan e = absurd (clash (cc))
-verdict_inj Plan (Refused m) e = absurd (clash (cc))
-verdict_inj NoPlan Plan e = absurd (clash (cc))
-verdict_inj NoPlan NoPlan e = refl
-verdict_inj NoPlan (Refused m) e = absurd (clash (cc))
-verdict_inj (Refused n) Plan e = absurd (clash (cc))
-verdict_inj (Refused n) NoPlan e = absurd (clash (cc))
-verdict_inj (Refused n) (Refused m) e = ap Refused (refused_inj e)
+pub verdict_inj : (v w : Verdict) → verdict_of v ≡ verdict_of w → place_of v ≡ place_of w → v ≡ w
+verdict_inj Plan Plan e p = refl
+verdict_inj Plan NoPlan e p = absurd (clash (cc))
+verdict_inj Plan (Refused g) e p = absurd (clash (cc))
+verdict_inj NoPlan Plan e p = absurd (clash (cc))
+verdict_inj NoPlan NoPlan e p = refl
+verdict_inj NoPlan (Refused g) e p = absurd (clash (cc))
+verdict_inj (Refused f) Plan e p = absurd (clash (cc))
+verdict_inj (Refused f) NoPlan e p = absurd (clash (cc))
+verdict_inj (Refused f) (Refused g) e p = ap Refused (refusal_inj f g (refused_inj e) p)
 
 pub answer_inj : (a b : Answer) (p q : List ℕ) → searched_of a p ≡ searched_of b q → a ≡ b
 answer_inj a b p q e = λ i. record {
-  verdict = verdict_inj a.verdict b.verdict (ap (λ (r : Searched). r.verdict) e) i;
-  place = ap (λ (r : Searched). r.place) e i;
+  verdict = verdict_inj a.verdict b.verdict (ap (λ (r : Searched). r.verdict) e) (ap (λ (r : Searched). r.place) e) i;
   count = ap (λ (r : Searched). r.count) e i;
   length = ap (λ (r : Searched). r.plan_length) e i;
 }
@@ -86,8 +86,8 @@ pub search-sheet_unique : {l : List ℕ} {store s t : List Node} {plan p q : Lis
 search-sheet_unique {l} {store} {s} {t} {plan} {p} {q} {a} {b} u v = go (reading l) refl
   where
     go : (r : Reading) → reading l ≡ r → (a ≡ b) × (s ≡ t) × (p ≡ q)
-    go (reading-is.Accepted h) e = done_unique (sheet-ready l e) (u.accepted e) (v.accepted e)
-    go (reading-is.Refused f) e =
+    go (Ok h) e = done_unique (sheet-ready l e) (u.accepted e) (v.accepted e)
+    go (Err f) e =
         let i = u.refused e in
         let j = v.refused e in
         (i.answer_is ∙ sym j.answer_is, i.store_is ∙ sym j.store_is, i.plan_is ∙ sym j.plan_is)

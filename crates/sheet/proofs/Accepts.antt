@@ -11,13 +11,12 @@ use borrow.Author.Tests.{le-ltb, eq-eqb, eqb-true, not-false}
 use Rattle.meaning.proofs.Tests.{clash}
 use Rattle.numbers.specs.Bytes.{number_at}
 use Rattle.sheet.specs.Sheet.{Valid, sheet_in, set_in, stated_for, length_for}
-use Rattle.sheet.specs.Refusals.{verdict, stated, reading_rows}
+use Rattle.sheet.specs.Refusals.{stated, reading_rows, Check, check}
 use Rattle.sheet.specs.Answers.{head_of, reading}
 use Rattle.sheet.specs.declared.Head.{Head}
 use Rattle.sheet.specs.declared.Counted.TheVariants.{Stated}
-use Rattle.sheet.specs.declared.Reading.TheVariants.{Accepted, Refused}
-use Rattle.sheet.specs.declared.Check.{Check}
-use Rattle.sheet.specs.declared.Check.TheVariants.{Passed, Failed}
+use Rattle.std.specs.Prelude.{Ok, Err}
+use Rattle.std.specs.Prelude.{Ok, Err}
 use Rattle.sheet.proofs.Rows.{on_check, or_false, both_false, length_from}
 use Rattle.sheet.proofs.ByCheck.{reading-by}
 use Rattle.sheet.proofs.ValidLaws.{NoneHold, none_here, none_rest, none-cons, valid, even, passes_valid}
@@ -57,20 +56,20 @@ accepts_none l a =
 
 -- ---- the answer
 
-pub accepts_reading : (l : List ℕ) → Accepts l → reading l ≡ Accepted (head_of (sheet_in l))
-accepts_reading l a = reading-by l ∙ ap (λ (k : Check). on_check Refused (Accepted (head_of (sheet_in l))) k) (accepts_none l a).passes
+pub accepts_reading : (l : List ℕ) → Accepts l → reading l ≡ Ok (head_of (sheet_in l))
+accepts_reading l a = reading-by l ∙ ap (λ (k : Check). on_check Err (Ok (head_of (sheet_in l))) k) (accepts_none l a).passes
 
 pub record Taken (l : List ℕ) (h : Head) : Type 0 where
   pub accepts : Accepts l
   pub head : h ≡ head_of (sheet_in l)
 
-pub reading_accepts : (l : List ℕ) (h : Head) → reading l ≡ Accepted h → Taken l h
-reading_accepts l h e = go (verdict Failed Passed (reading_rows l)) refl
+pub reading_accepts : (l : List ℕ) (h : Head) → reading l ≡ Ok h → Taken l h
+reading_accepts l h e = go (check (reading_rows l)) refl
   where
-    go : (k : Check) → verdict Failed Passed (reading_rows l) ≡ k → Taken l h
-    go Passed p =
-        let f : Accepted (head_of (sheet_in l)) ≡ Accepted h = sym (reading-by l ∙ ap (λ (k : Check). on_check Refused (Accepted (head_of (sheet_in l))) k) p) ∙ e in
+    go : (k : Check) → check (reading_rows l) ≡ k → Taken l h
+    go (Ok tt) p =
+        let f : Ok (head_of (sheet_in l)) ≡ Ok h = sym (reading-by l ∙ ap (λ (k : Check). on_check Err (Ok (head_of (sheet_in l))) k) p) ∙ e in
         record { accepts = none_accepts l (record { passes = p }); head = cc }
-    go (Failed q) p =
-        let f : Refused q ≡ Accepted h = sym (reading-by l ∙ ap (λ (k : Check). on_check Refused (Accepted (head_of (sheet_in l))) k) p) ∙ e in
+    go (Err q) p =
+        let f : Err q ≡ Ok h = sym (reading-by l ∙ ap (λ (k : Check). on_check Err (Ok (head_of (sheet_in l))) k) p) ∙ e in
         absurd (clash (cc))

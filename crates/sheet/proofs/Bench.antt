@@ -7,7 +7,7 @@ use Rattle.sets.specs.Words.{set_for}
 use Rattle.sheet.specs.Sheet.{sheet_with, encode, sheet_in}
 use Rattle.sheet.specs.Refusals.{verdict, head_rows, set_rows, reading_rows}
 use Rattle.sheet.specs.Answers.{head_with, reading}
-use Rattle.sheet.specs.declared.Reading.TheVariants.{Accepted}
+use Rattle.std.specs.Prelude.{Ok}
 
 -- a small set, in eight bytes
 abbrev pub set8 : ℕ → List ℕ → List ℕ
@@ -39,35 +39,35 @@ dead_end = sheet21 1 2 2 0
 
 -- ---- what the reader says
 
-pub reads_S : reading (S 1) ≡ Accepted (head_with 2 2 (set_for 3) (set_for 1))
+pub reads_S : reading (S 1) ≡ Ok (head_with 2 2 (set_for 3) (set_for 1))
 unfolding reading verdict reading_rows head_rows set_rows sheet_in number
 reads_S = refl
 
-pub reads_S_two : reading (S 2) ≡ Accepted (head_with 2 2 (set_for 3) (set_for 2))
+pub reads_S_two : reading (S 2) ≡ Ok (head_with 2 2 (set_for 3) (set_for 2))
 unfolding reading verdict reading_rows head_rows set_rows sheet_in number
 reads_S_two = refl
 
-pub reads_S_none : reading (S 0) ≡ Accepted (head_with 2 2 (set_for 3) (set_for 0))
+pub reads_S_none : reading (S 0) ≡ Ok (head_with 2 2 (set_for 3) (set_for 0))
 unfolding reading verdict reading_rows head_rows set_rows sheet_in number
 reads_S_none = refl
 
-pub reads_partial : reading partial ≡ Accepted (head_with 2 2 (set_for 3) (set_for 1))
+pub reads_partial : reading partial ≡ Ok (head_with 2 2 (set_for 3) (set_for 1))
 unfolding reading verdict reading_rows head_rows set_rows sheet_in number
 reads_partial = refl
 
-pub reads_swap : reading (swap 1 2) ≡ Accepted (head_with 2 1 (set_for 1) (set_for 2))
+pub reads_swap : reading (swap 1 2) ≡ Ok (head_with 2 1 (set_for 1) (set_for 2))
 unfolding reading verdict reading_rows head_rows set_rows sheet_in number
 reads_swap = refl
 
-pub reads_swap_all : reading (swap 3 1) ≡ Accepted (head_with 2 1 (set_for 3) (set_for 1))
+pub reads_swap_all : reading (swap 3 1) ≡ Ok (head_with 2 1 (set_for 3) (set_for 1))
 unfolding reading verdict reading_rows head_rows set_rows sheet_in number
 reads_swap_all = refl
 
-pub reads_dead_end : reading dead_end ≡ Accepted (head_with 2 1 (set_for 1) (set_for 2))
+pub reads_dead_end : reading dead_end ≡ Ok (head_with 2 1 (set_for 1) (set_for 2))
 unfolding reading verdict reading_rows head_rows set_rows sheet_in number
 reads_dead_end = refl
 
-pub reads_drift : reading drift ≡ Accepted (head_with 2 1 (set_for 1) (set_for 2))
+pub reads_drift : reading drift ≡ Ok (head_with 2 1 (set_for 1) (set_for 2))
 unfolding reading verdict reading_rows head_rows set_rows sheet_in number
 reads_drift = refl
 

@@ -10,12 +10,12 @@ use lib.Pow.{pow_pos}
 use lib.ListN.{length, get_or}
 use borrow.Author.Tests.{le-ltb}
 use Rattle.meaning.specs.Domain.{Within, WellFormed, Start}
-use Rattle.sets.specs.Words.{set_of, IsValue}
-use Rattle.sets.proofs.Values.{set_for_lem, is_value}
+use Rattle.sets.specs.Words.{set_of}
+use Rattle.sets.proofs.Values.{set_for_lem}
 use Rattle.sheet.specs.Sheet.{Sheet, Valid, encode, sheet_in, domain, domain_in, length_for}
 use Rattle.sheet.specs.Answers.{reading}
 use Rattle.sheet.specs.declared.Head.{Head}
-use Rattle.sheet.specs.declared.Reading.TheVariants.{Accepted}
+use Rattle.std.specs.Prelude.{Ok}
 use Rattle.sheet.proofs.Rows.{product}
 use Rattle.sheet.proofs.Fields.{length-encode}
 use Rattle.sheet.proofs.Accepts.{reading_accepts}
@@ -28,7 +28,7 @@ valid_well_formed s v = record { rows = λ a t h. pick (ltb a s.commands && ltb 
     pick true i = v.sets-within i
     pick false i = pow_pos s.states
 
-module _ (l : List ℕ) (h : Head) (e : reading l ≡ Accepted h) where
+module _ (l : List ℕ) (h : Head) (e : reading l ≡ Ok h) where
   pub domain_well_formed : WellFormed (domain_in l)
   domain_well_formed = valid_well_formed (sheet_in l) (reading_accepts l h e).accepts.is_valid
 
@@ -44,9 +44,6 @@ module _ (l : List ℕ) (h : Head) (e : reading l ≡ Accepted h) where
       let v = t.accepts.is_valid in
       subst (λ (g : Head). Start (domain_in l) (set_of g.initial)) (sym t.head) (subst (λ (x : ℕ). Start (domain_in l) x) (sym (set_for_lem _)) (record { within = v.initial_within; some_state = v.initial_some }))
 
-  pub initial-value : IsValue h.initial
-  initial-value = is_value _ (ap (λ (g : Head). g.initial) (reading_accepts l h e).head)
-
   pub goal-within : Within (domain_in l) (set_of h.goal)
   unfolding domain
   goal-within =
@@ -61,7 +58,7 @@ pub record HeadFits (l : List ℕ) (h : Head) : Type 0 where
   pub commands_fit : h.commands ≤ 32
   pub long : length l ≡ length_for h.states h.commands
 
-pub head-fits : (l : List ℕ) (h : Head) → reading l ≡ Accepted h → HeadFits l h
+pub head-fits : (l : List ℕ) (h : Head) → reading l ≡ Ok h → HeadFits l h
 head-fits l h e =
     let t = reading_accepts l h e in
     let v = t.accepts.is_valid in
@@ -70,7 +67,7 @@ head-fits l h e =
 -- ---- the largest sheet
 
 -- no sheet that is accepted has more than 16,407 bytes
-pub at_most_16407 : (l : List ℕ) (h : Head) → reading l ≡ Accepted h → length l ≤ 16407
+pub at_most_16407 : (l : List ℕ) (h : Head) → reading l ≡ Ok h → length l ≤ 16407
 at_most_16407 l h e =
     let f = head-fits l h e in
     omega (arith, f.long, product f.commands_fit f.states_fit)

@@ -12,3 +12,5 @@ pub mod RefusedPlace
 pub mod Unique
 pub mod DomainLaws
 pub mod Bench
+pub mod EachSet
+pub mod Reasons

@@ -10,14 +10,13 @@ use native.Mathlib.Omega.{arith}
 use lib.ListN.{get_elem?}
 use Rattle.meaning.proofs.Tests.{clash}
 use Rattle.sheet.specs.Sheet.{Sheet, sheet_in, sets_at, set_width}
-use Rattle.sheet.specs.Refusals.{Row, verdict, head_rows, set_rows, sheet_rows, stated, reading_rows}
+use Rattle.sheet.specs.Refusals.{Row, verdict, number_of, head_rows, set_rows, sheet_rows, stated, reading_rows, Check, check, passes}
 use Rattle.sheet.specs.Answers.{head_of, reading}
 use Rattle.sheet.specs.declared.Refusal.{Refusal}
 use Rattle.sheet.specs.declared.Counted.{Counted}
 use Rattle.sheet.specs.declared.Counted.TheVariants.{Stated}
-use Rattle.sheet.specs.declared.Reading.TheVariants.{Accepted, Refused}
-use Rattle.sheet.specs.declared.Check.{Check}
-use Rattle.sheet.specs.declared.Check.TheVariants.{Passed, Failed}
+use Rattle.std.specs.Prelude.{Ok, Err}
+use Rattle.std.specs.Prelude.{Ok, Err}
 use Rattle.sheet.proofs.ByCheck.{reading-by}
 use Rattle.sheet.proofs.Rows.{on_check, holds-here, holds_not}
 
@@ -36,40 +35,40 @@ later r rs q e g = record { at = suc g.at; holds-there = g.holds-there; none_bef
     go zero p h f = let k : r ≡ p = cc in sym (ap (λ (o : Row). o.holds) k) ∙ e
     go (suc j) p h f = g.none_before j p (omega arith) f
 
-pub fails_given : (rs : List Row) (q : Refusal) → verdict Failed Passed rs ≡ Failed q → Given rs q
+pub fails_given : (rs : List Row) (q : Refusal) → check rs ≡ Err q → Given rs q
 unfolding verdict
 fails_given [] q e = absurd (clash (cc))
 fails_given (r ∷ rs) q e = go r.holds refl e (fails_given rs q)
   where
-    go : (b : Bool) → r.holds ≡ b → cond b (Failed r.gives) (verdict Failed Passed rs) ≡ Failed q → (verdict Failed Passed rs ≡ Failed q → Given rs q) → Given (r ∷ rs) q
+    go : (b : Bool) → r.holds ≡ b → cond b (Err r.gives) (check rs) ≡ Err q → (check rs ≡ Err q → Given rs q) → Given (r ∷ rs) q
     go true h f ih =
         let k : r.gives ≡ q = cc in
         record { at = zero; holds-there = λ i. some (record { holds = h i; gives = k i }); none_before = λ j p l. absurd (omega arith) }
     go false h f ih = later r rs q h (ih f)
 
-pub given_fails : (rs : List Row) (q : Refusal) → Given rs q → verdict Failed Passed rs ≡ Failed q
+pub given_fails : (rs : List Row) (q : Refusal) → Given rs q → check rs ≡ Err q
 given_fails rs q g = go rs g.at g.holds-there g.none_before
   where
-    go : (rs : List Row) (k : ℕ) → get_elem? rs k ≡ some (record { holds = true; gives = q }) → ((j : ℕ) (r : Row) → j < k → get_elem? rs j ≡ some r → r.holds ≡ false) → verdict Failed Passed rs ≡ Failed q
+    go : (rs : List Row) (k : ℕ) → get_elem? rs k ≡ some (record { holds = true; gives = q }) → ((j : ℕ) (r : Row) → j < k → get_elem? rs j ≡ some r → r.holds ≡ false) → check rs ≡ Err q
     go [] k e n = absurd (clash (cc))
     go (r ∷ rs) zero e n =
         let f : r ≡ record { holds = true; gives = q } = cc in
-        holds-here Failed Passed r rs (ap (λ (o : Row). o.holds) f) ∙ ap (λ (o : Row). Failed o.gives) f
-    go (r ∷ rs) (suc k) e n = holds_not Failed Passed r rs (n zero r (omega arith) refl) ∙ go rs k e (λ j p h. n (suc j) p (omega arith))
+        holds-here Err passes r rs (ap (λ (o : Row). o.holds) f) ∙ ap (λ (o : Row). Err o.gives) f
+    go (r ∷ rs) (suc k) e n = holds_not Err passes r rs (n zero r (omega arith) refl) ∙ go rs k e (λ j p h. n (suc j) p (omega arith))
 
 -- ---- for reading
 
-pub refused_as : (l : List ℕ) (q : Refusal) → (reading l ≡ Refused q) ↔ Given (reading_rows l) q
-refused_as l q = (λ e. fails_given (reading_rows l) q (there (verdict Failed Passed (reading_rows l)) (sym (reading-by l) ∙ e)), λ g. reading-by l ∙ ap (λ (k : Check). on_check Refused (Accepted (head_of (sheet_in l))) k) (given_fails (reading_rows l) q g))
+pub refused_as : (l : List ℕ) (q : Refusal) → (reading l ≡ Err q) ↔ Given (reading_rows l) q
+refused_as l q = (λ e. fails_given (reading_rows l) q (there (check (reading_rows l)) (sym (reading-by l) ∙ e)), λ g. reading-by l ∙ ap (λ (k : Check). on_check Err (Ok (head_of (sheet_in l))) k) (given_fails (reading_rows l) q g))
   where
-    there : (k : Check) → on_check Refused (Accepted (head_of (sheet_in l))) k ≡ Refused q → k ≡ Failed q
-    there Passed e = absurd (clash (cc))
-    there (Failed p) e = let f : p ≡ q = cc in ap Failed f
+    there : (k : Check) → on_check Err (Ok (head_of (sheet_in l))) k ≡ Err q → k ≡ Err q
+    there (Ok tt) e = absurd (clash (cc))
+    there (Err p) e = let f : p ≡ q = cc in ap Err f
 
 -- ---- reading gives only 1 to 8
 
 abbrev pub Between : ℕ → ℕ → Refusal → Type 0
-Between low high q = (low ≤ q.number) × (q.number ≤ high)
+Between low high q = (low ≤ number_of q.reason) × (number_of q.reason ≤ high)
 
 -- each row gives a number of those
 abbrev pub Each : ℕ → ℕ → List Row → Type 0
@@ -98,16 +97,16 @@ each-sheet low high l h counted s =
     let rows : List Row = head_rows counted s.states s.commands s.initial s.goal in
     each_append low high rows (set_rows s.states sets_at s.sets) (wider low high l (omega arith) rows (each-head counted s.states s.commands s.initial s.goal)) (each_set low high (omega arith) h s.states sets_at s.sets)
 
-pub each-gives : (low high : ℕ) (rs : List Row) (q : Refusal) → Each low high rs → verdict Failed Passed rs ≡ Failed q → Between low high q
+pub each-gives : (low high : ℕ) (rs : List Row) (q : Refusal) → Each low high rs → check rs ≡ Err q → Between low high q
 unfolding verdict
 each-gives low high [] q e f = absurd (clash (cc))
 each-gives low high (r ∷ rs) q e f = go r.holds f (each-gives low high rs q e.1)
   where
-    go : (b : Bool) → cond b (Failed r.gives) (verdict Failed Passed rs) ≡ Failed q → (verdict Failed Passed rs ≡ Failed q → Between low high q) → Between low high q
+    go : (b : Bool) → cond b (Err r.gives) (check rs) ≡ Err q → (check rs ≡ Err q → Between low high q) → Between low high q
     go true f ih = let k : r.gives ≡ q = cc in subst (λ (p : Refusal). Between low high p) k e.0
     go false f ih = ih f
 
-pub reading-gives : (l : List ℕ) (q : Refusal) → reading l ≡ Refused q → Between 1 8 q
+pub reading-gives : (l : List ℕ) (q : Refusal) → reading l ≡ Err q → Between 1 8 q
 unfolding reading_rows
 reading-gives l q e =
     each-gives 1 8 (reading_rows l) q (omega arith, (omega arith, (omega arith, each-sheet 1 8 (omega arith) (omega arith) (Stated (stated l)) (sheet_in l)))) (given_fails (reading_rows l) q ((refused_as l q).0 e))

@@ -13,7 +13,7 @@ use Rattle.sheet.specs.Sheet.{sheet_in, sets_at, set_width, set_in, states_in, c
 use Rattle.sheet.specs.Refusals.{Row, head_rows, set_rows, reading_rows}
 use Rattle.sheet.specs.Answers.{reading}
 use Rattle.sheet.specs.declared.Refusal.{Refusal}
-use Rattle.sheet.specs.declared.Reading.TheVariants.{Refused}
+use Rattle.std.specs.Prelude.{Err}
 use Rattle.sheet.proofs.Rows.{length_from, product, most}
 use Rattle.sheet.proofs.RefusedAs.{refused_as}
 
@@ -33,7 +33,7 @@ set-place states at [] k {p} e = absurd (none-ne-some p e)
 set-place states at (x ∷ xs) zero e = (omega (arith, place_is e), omega arith)
 set-place states at (x ∷ xs) (suc k) e = let r = set-place states (at + set_width) xs k e in (omega (arith, r.0), omega (arith, r.1))
 
-pub place_below : (l : List ℕ) {q : Refusal} → reading l ≡ Refused q → q.place < 16400
+pub place_below : (l : List ℕ) {q : Refusal} → reading l ≡ Err q → q.place < 16400
 unfolding reading_rows head_rows sheet_in
 place_below l {q} e = let g = (refused_as l q).0 e in go g.at g.holds-there g.none_before
   where

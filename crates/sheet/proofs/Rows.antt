@@ -17,17 +17,17 @@ use Rattle.sets.specs.Words.{Value, set_of, set_for}
 use Rattle.sets.proofs.Values.{stands_for}
 use Rattle.meaning.specs.Sets.{Tells}
 use Rattle.sheet.specs.Sheet.{set_offset, from}
-use Rattle.sheet.specs.Refusals.{Row, row, verdict, missing, outside, set_rows}
+use Rattle.sheet.specs.Refusals.{Row, row, refusal, verdict, missing, outside, set_rows, Check, check, passes}
+use Rattle.sheet.specs.declared.Reason.TheVariants.{Following}
 use Rattle.sheet.specs.declared.Refusal.{Refusal}
-use Rattle.sheet.specs.declared.Check.{Check}
-use Rattle.sheet.specs.declared.Check.TheVariants.{Passed, Failed}
+use Rattle.std.specs.Prelude.{Ok, Err}
 
 -- an answer by a check of rows
 abbrev pub on_check : {A : Type 0} → (Refusal → A) → A → Check → A
-on_check refused otherwise Passed = otherwise
-on_check refused otherwise (Failed q) = refused q
+on_check refused otherwise (Ok tt) = otherwise
+on_check refused otherwise (Err q) = refused q
 
-pub not_failed : {q : Refusal} → ¬ (Failed q ≡ Passed)
+pub not_failed : {q : Refusal} → ¬ (◌≡◌ {A = Check} (Err q) passes)
 not_failed e = clash (cc)
 
 module _ {A : Type 0} (refused : Refusal → A) (otherwise : A) where
@@ -45,31 +45,31 @@ module _ {A : Type 0} (refused : Refusal → A) (otherwise : A) where
   verdict-append (r ∷ rs) qs = ap (λ (a : A). cond r.holds (refused r.gives) a) (verdict-append rs qs)
 
   -- what a check of some rows says of any answer by them
-  pub by_check : (rs : List Row) → verdict refused otherwise rs ≡ on_check refused otherwise (verdict Failed Passed rs)
+  pub by_check : (rs : List Row) → verdict refused otherwise rs ≡ on_check refused otherwise (check rs)
   unfolding verdict
   by_check [] = refl
   by_check (r ∷ rs) = go r.holds (by_check rs)
     where
-      go : (b : Bool) → verdict refused otherwise rs ≡ on_check refused otherwise (verdict Failed Passed rs)
-          → cond b (refused r.gives) (verdict refused otherwise rs) ≡ on_check refused otherwise (cond b (Failed r.gives) (verdict Failed Passed rs))
+      go : (b : Bool) → verdict refused otherwise rs ≡ on_check refused otherwise (check rs)
+          → cond b (refused r.gives) (verdict refused otherwise rs) ≡ on_check refused otherwise (cond b (Err r.gives) (check rs))
       go true ih = refl
       go false ih = ih
 
 -- the same where other rows follow
-pub checked : {A : Type 0} (refused : Refusal → A) (otherwise : A) (rs qs : List Row) → verdict refused otherwise (rs ++ qs) ≡ on_check refused (verdict refused otherwise qs) (verdict Failed Passed rs)
+pub checked : {A : Type 0} (refused : Refusal → A) (otherwise : A) (rs qs : List Row) → verdict refused otherwise (rs ++ qs) ≡ on_check refused (verdict refused otherwise qs) (check rs)
 checked refused otherwise rs qs = verdict-append refused otherwise rs qs ∙ by_check refused (verdict refused otherwise qs) rs
 
 -- rows that pass: no condition holds
-pub passes_here : (r : Row) (rs : List Row) → verdict Failed Passed (r ∷ rs) ≡ Passed → r.holds ≡ false
+pub passes_here : (r : Row) (rs : List Row) → check (r ∷ rs) ≡ passes → r.holds ≡ false
 unfolding verdict
 passes_here r rs e = go r.holds e
   where
-    go : (b : Bool) → cond b (Failed r.gives) (verdict Failed Passed rs) ≡ Passed → b ≡ false
+    go : (b : Bool) → cond b (Err r.gives) (check rs) ≡ passes → b ≡ false
     go true e = absurd (clash (cc))
     go false e = refl
 
-pub passes_rest : (r : Row) (rs : List Row) → verdict Failed Passed (r ∷ rs) ≡ Passed → verdict Failed Passed rs ≡ Passed
-passes_rest r rs e = sym (holds_not Failed Passed r rs (passes_here r rs e)) ∙ e
+pub passes_rest : (r : Row) (rs : List Row) → check (r ∷ rs) ≡ passes → check rs ≡ passes
+passes_rest r rs e = sym (holds_not Err passes r rs (passes_here r rs e)) ∙ e
 
 -- ---- row 8
 
@@ -78,17 +78,17 @@ module _ {A : Type 0} (refused : Refusal → A) (otherwise : A) (states : ℕ) (
   abbrev pub rest : ℕ → A
   rest i = verdict refused otherwise (set_rows states (set_offset i) (drop i xs))
 
-  pub rows_at : (i : ℕ) → i < length xs → set_rows states (set_offset i) (drop i xs) ≡ row (missing states (get_or xs i 0)) 8 (set_offset i) ∷ set_rows states (set_offset (i + 1)) (drop (i + 1) xs)
+  pub rows_at : (i : ℕ) → i < length xs → set_rows states (set_offset i) (drop i xs) ≡ row (missing states (get_or xs i 0)) Following (set_offset i) ∷ set_rows states (set_offset (i + 1)) (drop (i + 1) xs)
   unfolding set_rows
   rows_at i h =
       ap (λ (l : List ℕ). set_rows states (set_offset i) l) (drop-cons xs i 0 h)
-      ∙ ap₂ (λ (at j : ℕ). row (missing states (get_or xs i 0)) 8 (set_offset i) ∷ set_rows states at (drop j xs)) (omega arith) (sym (add-one i))
+      ∙ ap₂ (λ (at j : ℕ). row (missing states (get_or xs i 0)) Following (set_offset i) ∷ set_rows states at (drop j xs)) (omega arith) (sym (add-one i))
 
-  pub set_fails : (i : ℕ) → i < length xs → missing states (get_or xs i 0) ≡ true → rest i ≡ refused (record { number = 8; place = set_offset i })
-  set_fails i h e = ap (λ (rs : List Row). verdict refused otherwise rs) (rows_at i h) ∙ holds-here refused otherwise (row (missing states (get_or xs i 0)) 8 (set_offset i)) (set_rows states (set_offset (i + 1)) (drop (i + 1) xs)) e
+  pub set_fails : (i : ℕ) → i < length xs → missing states (get_or xs i 0) ≡ true → rest i ≡ refused (refusal Following (set_offset i))
+  set_fails i h e = ap (λ (rs : List Row). verdict refused otherwise rs) (rows_at i h) ∙ holds-here refused otherwise (row (missing states (get_or xs i 0)) Following (set_offset i)) (set_rows states (set_offset (i + 1)) (drop (i + 1) xs)) e
 
   pub set_passes : (i : ℕ) → i < length xs → missing states (get_or xs i 0) ≡ false → rest i ≡ rest (i + 1)
-  set_passes i h e = ap (λ (rs : List Row). verdict refused otherwise rs) (rows_at i h) ∙ holds_not refused otherwise (row (missing states (get_or xs i 0)) 8 (set_offset i)) (set_rows states (set_offset (i + 1)) (drop (i + 1) xs)) e
+  set_passes i h e = ap (λ (rs : List Row). verdict refused otherwise rs) (rows_at i h) ∙ holds_not refused otherwise (row (missing states (get_or xs i 0)) Following (set_offset i)) (set_rows states (set_offset (i + 1)) (drop (i + 1) xs)) e
 
   pub set_ends : (i : ℕ) → length xs ≤ i → rest i ≡ otherwise
   unfolding set_rows verdict

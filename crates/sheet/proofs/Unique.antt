@@ -4,7 +4,7 @@ use mathlib.Core.Path.{◌≡◌, sym, ◌∙◌}
 use mathlib.Core.List.{List}
 use Prim.Native.Nat.{ℕ}
 use Rattle.sheet.specs.Answers.{ReadAs}
-use Rattle.sheet.specs.declared.Reading.{Reading}
+use Rattle.sheet.specs.Answers.{Reading}
 
 -- whatever an equation fixes: the counts of states and commands, and the set at a command and a state, too
 pub one_answer : {A : Type 0} {x y z : A} → x ≡ z → y ≡ z → x ≡ y

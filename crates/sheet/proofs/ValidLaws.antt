@@ -9,14 +9,14 @@ use lib.Pow.{pow_pos}
 use lib.ListN.{length, get_or}
 use borrow.Author.Tests.{le-ltb, lt-leb, ne_eqb, leb-false, eqb-false}
 use Rattle.sheet.specs.Sheet.{Sheet, Valid, sets_at, set_width}
-use Rattle.sheet.specs.Refusals.{Row, verdict, uneven_by, head_rows, set_rows, sheet_rows, missing, outside}
+use Rattle.sheet.specs.Refusals.{Row, verdict, uneven_by, head_rows, set_rows, sheet_rows, missing, outside, check, passes}
 use Rattle.sheet.specs.declared.Counted.{Counted}
-use Rattle.sheet.specs.declared.Check.TheVariants.{Passed, Failed}
+use Rattle.std.specs.Prelude.{Err}
 use Rattle.sheet.proofs.Rows.{passes_here, passes_rest, holds_not, least, most, or_false, both_false}
 
 -- no row's condition holds
 pub record NoneHold (rs : List Row) : Type 0 where
-  pub passes : verdict Failed Passed rs ≡ Passed
+  pub passes : check rs ≡ passes
 
 pub none_here : {r : Row} {rs : List Row} → NoneHold (r ∷ rs) → r.holds ≡ false
 none_here {r} {rs} n = passes_here r rs n.passes
@@ -25,7 +25,7 @@ pub none_rest : {r : Row} {rs : List Row} → NoneHold (r ∷ rs) → NoneHold r
 none_rest {r} {rs} n = record { passes = passes_rest r rs n.passes }
 
 pub none-cons : {r : Row} {rs : List Row} → r.holds ≡ false → NoneHold rs → NoneHold (r ∷ rs)
-none-cons {r} {rs} e n = record { passes = holds_not Failed Passed r rs e ∙ n.passes }
+none-cons {r} {rs} e n = record { passes = holds_not Err passes r rs e ∙ n.passes }
 
 pub none-nil : NoneHold []
 unfolding verdict

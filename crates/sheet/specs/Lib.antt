@@ -1,3 +1,4 @@
 pub mod Sheet
 pub mod Refusals
 pub mod Answers
+pub mod EachSet

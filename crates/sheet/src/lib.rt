@@ -1,15 +1,18 @@
 // Sheets: what a scanner's states, commands and following sets are, as bytes. Reading gives the head, or a refusal by the table.
 #![tactic(auto)]
 
-ghost use Rattle.std.specs.Prelude.{◌≡◌, ◌||◌, map, ◌+◌, ◌*◌, ◌≤◌, ◌<◌, eqb, length, get_or};
+ghost use Rattle.std.specs.Prelude.{◌≡◌, ◌||◌, ℕ, map, ◌+◌, ◌*◌, ◌^◌, ◌≤◌, ◌<◌, eqb, length, get_or};
 ghost use Rattle.sets.specs.Words.{set_of, set_for};
 ghost use Rattle.numbers.specs.Bytes.{part, number_at, AreBytes};
 ghost use Rattle.sheet.specs.Sheet.{sets_at, set_width, from, set_in, sheet_in};
-ghost use Rattle.sheet.specs.Refusals.{missing, outside, uneven_by, head_rows, set_rows, sheet_rows, verdict};
-ghost use Rattle.sheet.specs.Answers.{head_of, shown_head, BytesIf, ReadAs};
+ghost use Rattle.sheet.specs.Refusals.{missing, outside, uneven_by, head_rows, set_rows, sheet_rows, verdict, check, number_of, refusal};
+ghost use Rattle.sheet.specs.EachSet.{SetsChecked};
+ghost use Rattle.sheet.specs.Answers.{head_of, ReadAs};
 
-use numbers::{eight, four, wide};
+use numbers::{eight, four};
 use sets::Set;
+use std::error::Error;
+use std::fmt;
 
 // Where the parts of a sheet stand, and how many bytes a set has.
 pub const STATED_AT: usize = 1;
@@ -31,7 +34,7 @@ pub const SET_WIDTH: usize = 8;
 pub const SHORTEST: usize = 18;
 
 // What a sheet says before its following sets.
-#[derive(Clone, Copy)]
+#[derive(Clone, Copy, Debug, PartialEq, Eq)]
 pub struct Head {
     pub states: usize,
     pub commands: usize,
@@ -39,43 +42,79 @@ pub struct Head {
     pub goal: Set,
 }
 
-// A number of the table of refusals, with its place.
-#[derive(Clone, Copy)]
+// Why a sheet, a plan or a search is refused: a row of the table of refusals each, in its order.
+#[derive(Clone, Copy, Debug, PartialEq, Eq)]
+pub enum Reason {
+    TooShort,
+    Version,
+    Length,
+    Counts,
+    Uneven,
+    Initial,
+    Goal,
+    Following,
+    Output,
+    NoCommand,
+    NotSendable,
+    OutsideGoal,
+    NoRoom,
+    LongPlan,
+}
+
+impl Reason {
+    // Its number in the table.
+    pub fn number(self) -> u8
+        ensures { result ≡ number_of self }
+    {
+        match self {
+            Reason::TooShort => 1,
+            Reason::Version => 2,
+            Reason::Length => 3,
+            Reason::Counts => 4,
+            Reason::Uneven => 5,
+            Reason::Initial => 6,
+            Reason::Goal => 7,
+            Reason::Following => 8,
+            Reason::Output => 9,
+            Reason::NoCommand => 10,
+            Reason::NotSendable => 11,
+            Reason::OutsideGoal => 12,
+            Reason::NoRoom => 13,
+            Reason::LongPlan => 14,
+        }
+    }
+
+    // The refusal for this reason, with its place.
+    pub fn at(self, place: usize) -> Refusal
+        ensures { result ≡ refusal self place }
+    {
+        Refusal {
+            reason: self,
+            place,
+        }
+    }
+}
+
+// A refusal of the table, with its place.
+#[derive(Clone, Copy, Debug, PartialEq, Eq)]
 pub struct Refusal {
-    pub number: u8,
+    pub reason: Reason,
     pub place: usize,
 }
 
-#[derive(Clone, Copy)]
-pub enum Reading {
-    Accepted(Head),
-    Refused(Refusal),
+impl fmt::Display for Refusal {
+    fn fmt<W: fmt::Write>(&self, f: &mut fmt::Formatter<W>) -> fmt::Result {
+        write!(f, "{} {}", self.reason.number(), self.place)
+    }
 }
 
-// What some rows of the table say.
-#[derive(Clone, Copy)]
-pub enum Check {
-    Passed,
-    Failed(Refusal),
-}
+impl Error for Refusal {}
 
 // What is said of the number of following sets: the stated length in reading, and in writing how many are given.
-#[derive(Clone, Copy)]
+#[derive(Clone, Copy, Debug, PartialEq, Eq)]
 pub enum Counted {
     Stated(usize),
     Given(usize),
-}
-
-fn refused(number: u8, place: usize) -> Reading
-    ensures { result ≡ Reading.Refused (record { number = number; place = place }) }
-{
-    Reading::Refused(Refusal { number, place })
-}
-
-fn failed(number: u8, place: usize) -> Check
-    ensures { result ≡ Check.Failed (record { number = number; place = place }) }
-{
-    Check::Failed(Refusal { number, place })
 }
 
 // The set whose bytes stand at `at`.
@@ -84,7 +123,7 @@ pub fn set_in(bytes: &[u8], at: usize) -> Set
     ensures value { result ≡ set_for (number_at at set_width bytes.now) }
     ensures are_bytes { AreBytes (part at set_width bytes.now) }
 {
-    sets::of_word(eight(bytes, at))
+    Set::from(eight(bytes, at))
 }
 
 // The set at index `i` of those that are given to be written, in words.
@@ -92,31 +131,27 @@ pub fn given_set(given: &[u64], i: usize) -> Set
     requires { i < length given.now }
     ensures { result ≡ set_for (get_or given.now i 0) }
 {
-    sets::of_word(given[i])
+    Set::from(given[i])
 }
 
 // Does the set name a state at or above the state count?
 fn names_missing(states: usize, set: Set) -> bool
     ensures { result ≡ missing states (set_of set) }
 {
-    !sets::within(set, states)
+    !set.within(states)
 }
 
 fn is_outside(least: usize, most: usize, n: usize) -> bool
     ensures { result ≡ outside least most n }
 {
-    if n < least { true } else { most < n }
+    n < least || most < n
 }
 
 // Is the set empty, or does it name a missing state?
 fn no_start(states: usize, set: Set) -> bool
     ensures { result ≡ (eqb (set_of set) 0 || missing states (set_of set)) }
 {
-    if sets::is_empty(set) {
-        true
-    } else {
-        names_missing(states, set)
-    }
+    set.is_empty() || names_missing(states, set)
 }
 
 // Is the number of following sets another than the one that is said?
@@ -131,121 +166,99 @@ fn is_uneven(counted: Counted, sets: usize) -> bool
 }
 
 // Rows 4 to 7. The product of the counts is formed once both are in range.
-pub fn check_head(
-    counted: Counted,
-    states: usize,
-    commands: usize,
-    initial: Set,
-    goal: Set,
-) -> Check
-    ensures { result ≡ verdict Check.Failed Check.Passed (head_rows counted states commands (set_of initial) (set_of goal)) }
+pub fn check_head(counted: Counted, head: Head) -> Result<(), Refusal>
+    ensures { result ≡ check (head_rows counted head.states head.commands (set_of head.initial) (set_of head.goal)) }
 {
+    let states = head.states;
     if is_outside(1, 64, states) {
-        return failed(4, STATES_AT);
+        return Err(Reason::Counts.at(STATES_AT));
     }
-    if is_outside(1, 32, commands) {
-        return failed(4, COMMANDS_AT);
+    if is_outside(1, 32, head.commands) {
+        return Err(Reason::Counts.at(COMMANDS_AT));
     }
-    if is_uneven(counted, commands * states) {
-        return failed(5, STATED_AT);
+    if is_uneven(counted, head.commands * states) {
+        return Err(Reason::Uneven.at(STATED_AT));
     }
-    if no_start(states, initial) {
-        return failed(6, INITIAL_AT);
+    if no_start(states, head.initial) {
+        return Err(Reason::Initial.at(INITIAL_AT));
     }
-    if names_missing(states, goal) {
-        return failed(7, GOAL_AT);
+    if names_missing(states, head.goal) {
+        return Err(Reason::Goal.at(GOAL_AT));
     }
-    Check::Passed
+    Ok(())
+}
+
+// Row 8, over so many following sets, each taken by its index.
+fn check_sets<F: Fn(usize) -> Set>(states: usize, count: usize, set_at: F) -> Result<(), Refusal>
+    requires count_bound { count < 2 ^ 60 }
+    requires callable { (i : ℕ) → i < count → F.pre set_at i }
+    ensures { SetsChecked states count (F.post set_at) result }
+{
+    for i in 0..count {
+        if names_missing(states, set_at(i)) {
+            return Err(Reason::Following.at(SETS_AT + SET_WIDTH * i));
+        }
+    }
+    Ok(())
 }
 
 // Row 8, over the following sets of a sheet's bytes.
-fn check_sets(sheet: &[u8], states: usize, count: usize) -> Check
+fn check_following(sheet: &[u8], states: usize, count: usize) -> Result<(), Refusal>
     requires { sets_at + set_width * count ≤ length sheet.now }
-    ensures value { result ≡ verdict Check.Failed Check.Passed (set_rows states sets_at (map (set_in sheet.now) (from 0 count))) }
-    ensures are_bytes { result ≡ Check.Passed → AreBytes (part sets_at (set_width * count) sheet.now) }
+    ensures { result ≡ check (set_rows states sets_at (map (set_in sheet.now) (from 0 count))) }
 {
-    let mut i = 0;
-    while i < count {
-        let at = SETS_AT + SET_WIDTH * i;
-        if names_missing(states, set_in(sheet, at)) {
-            return failed(8, at);
-        }
-        i += 1;
+    check_sets(states, count, |i| set_in(sheet, SETS_AT + SET_WIDTH * i))
+}
+
+// Row 8, over the following sets that are given.
+pub fn check_given(states: usize, given: &[u64]) -> Result<(), Refusal>
+    ensures { result ≡ check (set_rows states sets_at given.now) }
+{
+    check_sets(states, given.len(), |i| given_set(given, i))
+}
+
+// The head that a sheet's bytes hold.
+fn head_in(sheet: &[u8]) -> Head
+    requires { sets_at ≤ length sheet.now }
+    ensures { result ≡ head_of (sheet_in sheet.now) }
+{
+    Head {
+        states: usize::from(sheet[STATES_AT]),
+        commands: usize::from(sheet[COMMANDS_AT]),
+        initial: set_in(sheet, INITIAL_AT),
+        goal: set_in(sheet, GOAL_AT),
     }
-    Check::Passed
 }
 
 // Rows 4 to 8 of a sheet whose stated length is right.
-fn read_stated(sheet: &[u8], stated: usize) -> Reading
+fn read_stated(sheet: &[u8], stated: usize) -> Result<Head, Refusal>
     requires sheet_len { length sheet.now ≡ 5 + stated }
     requires le_stated { 18 ≤ stated }
-    ensures value { result ≡ verdict Reading.Refused (Reading.Accepted (head_of (sheet_in sheet.now))) (sheet_rows (Counted.Stated stated) (sheet_in sheet.now)) }
-    ensures bytes_if { BytesIf result (part 5 stated sheet.now) }
+    ensures { result ≡ verdict Err (Ok (head_of (sheet_in sheet.now))) (sheet_rows (Counted.Stated stated) (sheet_in sheet.now)) }
 {
-    let states = wide(sheet[STATES_AT]) as usize;
-    let commands = wide(sheet[COMMANDS_AT]) as usize;
-    let initial = set_in(sheet, INITIAL_AT);
-    let goal = set_in(sheet, GOAL_AT);
-    match check_head(Counted::Stated(stated), states, commands, initial, goal) {
-        Check::Failed(r) => Reading::Refused(r),
-        Check::Passed => match check_sets(sheet, states, commands * states) {
-            Check::Failed(r) => Reading::Refused(r),
-            Check::Passed => Reading::Accepted(Head {
-                states,
-                commands,
-                initial,
-                goal,
-            }),
-        },
-    }
+    let head = head_in(sheet);
+    check_head(Counted::Stated(stated), head)?;
+    check_following(sheet, head.states, head.commands * head.states)?;
+    Ok(head)
 }
 
-// Reads a sheet: its head, or the refusal by the table. Each byte of an accepted sheet was read.
-pub fn read(sheet: &[u8]) -> Reading
+// Reads a sheet: its head, or the refusal by the table.
+pub fn read(sheet: &[u8]) -> Result<Head, Refusal>
     ensures { ReadAs sheet.now result }
 {
     let length = sheet.len();
     if length < COUNTED_AT {
-        return refused(1, length);
+        return Err(Reason::TooShort.at(length));
     }
     if sheet[0] != 1 {
-        return refused(2, 0);
+        return Err(Reason::Version.at(0));
     }
     let stated = four(sheet, STATED_AT) as usize;
     if COUNTED_AT + stated != length {
-        return refused(3, STATED_AT);
+        return Err(Reason::Length.at(STATED_AT));
     }
     if stated < SHORTEST {
-        return refused(3, STATED_AT);
+        return Err(Reason::Length.at(STATED_AT));
     }
     read_stated(sheet, stated)
-}
-
-// The head of a reading: one with no states and no commands where it is a refusal.
-pub fn head_of(r: Reading) -> Head
-    ensures { result ≡ shown_head r }
-{
-    match r {
-        Reading::Accepted(h) => h,
-        Reading::Refused(_) => Head {
-            states: 0,
-            commands: 0,
-            initial: sets::empty(),
-            goal: sets::empty(),
-        },
-    }
-}
-
-// Row 8, over the following sets that are given.
-pub fn check_given(states: usize, given: &[u64]) -> Check
-    ensures { result ≡ verdict Check.Failed Check.Passed (set_rows states sets_at given.now) }
-{
-    let mut i = 0;
-    while i < given.len() {
-        if names_missing(states, given_set(given, i)) {
-            return failed(8, SETS_AT + SET_WIDTH * i);
-        }
-        i += 1;
-    }
-    Check::Passed
 }

@@ -2,10 +2,9 @@
 // writing ends with KEPT where every byte that must stay is as it was.
 #![tactic(auto)]
 
-use sets::{of_word, to_word};
-use sheet::Reading;
+use sets::Set;
+use sheet::{Head, Refusal};
 use std::io;
-use writer::Writing;
 
 // Sheet S of the bench examples, 55 bytes, and zeros after it.
 const S: [u8; 64] = [
@@ -17,302 +16,306 @@ const S: [u8; 64] = [
 // What the output holds before it is written.
 const FILL: u8 = 170;
 
-fn say(rt: &impl Print, label: &[u8], word: &[u8], a: u64, b: u64) -> io::Result<()> {
-    rt.write_all(label)?;
-    rt.write_all(word)?;
-    rt.print(a)?;
-    rt.write_all(b" ")?;
-    rt.print(b)
-}
-
-fn say_reading(rt: &impl Print, label: &[u8], r: Reading) -> io::Result<()> {
-    match r {
-        Reading::Accepted(head) => say(
-            rt,
-            label,
-            b" ACCEPTED ",
-            head.states as u64,
-            head.commands as u64,
-        )?,
-        Reading::Refused(q) => say(rt, label, b" REFUSED ", q.number as u64, q.place as u64)?,
-    }
-    rt.write_all(b"\n")
-}
-
-// Reads the first n bytes.
-fn read_first(rt: &impl Print, label: &[u8], bytes: &[u8], n: usize) -> io::Result<()> {
-    if n <= bytes.len() {
-        say_reading(rt, label, sheet::read(&bytes[0..n]))?;
-    }
-    Ok(())
-}
-
-// S with the byte at `at` changed to b, of which the first n bytes are read.
-fn try_read(rt: &impl Print, label: &[u8], n: usize, at: usize, b: u8) -> io::Result<()> {
-    let mut bytes = S;
-    bytes[at % 64] = b;
-    read_first(rt, label, &bytes, n)
-}
-
-// How many bytes the first n bytes of S show for a command and a state, and the set that they stand for.
-fn show_first(
-    rt: &impl Print,
-    label: &[u8],
-    bytes: &[u8],
-    n: usize,
-    command: usize,
-    state: usize,
-) -> io::Result<()> {
-    if n <= bytes.len() {
-        let s = &bytes[0..n];
-        let shown = shown::following(s, command, state);
-        let set = shown::set_at(s, shown::states(s), command, state);
-        say(rt, label, b" SHOWN ", shown.len() as u64, to_word(set))?;
-        rt.write_all(b"\n")?;
-    }
-    Ok(())
-}
-
-fn try_show(
-    rt: &impl Print,
-    label: &[u8],
-    n: usize,
-    command: usize,
-    state: usize,
-) -> io::Result<()> {
-    let bytes = S;
-    show_first(rt, label, &bytes, n, command, state)
-}
-
-// Do all bytes from `from` on hold what they held before?
-fn kept(out: &[u8], from: usize) -> bool {
-    let mut i = from;
-    while i < out.len() {
-        if out[i] != FILL {
-            return false;
-        }
-        i += 1;
-    }
-    true
-}
-
-fn say_kept(rt: &impl Print, all: bool) -> io::Result<()> {
-    if all {
-        rt.write_all(b" KEPT\n")?;
-    } else {
-        rt.write_all(b" TOUCHED\n")?;
-    }
-    Ok(())
-}
-
-fn say_writing(rt: &impl Print, label: &[u8], r: Writing, out: &[u8]) -> io::Result<()> {
-    match r {
-        Writing::Written(n) => {
-            rt.write_all(label)?;
-            rt.write_all(b" WRITTEN ")?;
-            rt.print(n as u64)?;
-            say_kept(rt, kept(out, n))?;
-        }
-        Writing::Refused(q) => {
-            say(rt, label, b" REFUSED ", q.number as u64, q.place as u64)?;
-            say_kept(rt, kept(out, 0))?;
-        }
-    }
-    Ok(())
-}
-
-// Writes a sheet of the first `count` sets that are given into the first `room` bytes of the output.
-fn write_first(
-    rt: &impl Print,
-    label: &[u8],
-    states: usize,
-    commands: usize,
-    initial: u64,
-    goal: u64,
-    given: &[u64],
-    count: usize,
-    out: &mut [u8],
-    room: usize,
-) -> io::Result<()> {
-    if count <= given.len() {
-        if room <= out.len() {
-            let r = writer::write(
-                states,
-                commands,
-                of_word(initial),
-                of_word(goal),
-                &given[0..count],
-                &mut out[0..room],
-            );
-            say_writing(rt, label, r, out)?;
-        }
-    }
-    Ok(())
-}
-
-// The sets 2, 1, 1, 1 and 1, of which the one at `at` is changed to x and `count` are written.
-fn try_write(
-    rt: &impl Print,
-    label: &[u8],
+// What is written: a head with its sets in words, and the first `count` of the sets 2, 1, 1, 1 and 1, of which the one at `at` is changed
+// to `set`. It goes into the first `room` bytes of the output.
+#[derive(Clone, Copy)]
+struct Row {
+    label: &'static str,
     states: usize,
     commands: usize,
     initial: u64,
     goal: u64,
     count: usize,
     at: usize,
-    x: u64,
+    set: u64,
     room: usize,
-) -> io::Result<()> {
-    let mut sets = [2u64, 1, 1, 1, 1];
-    let mut out = [FILL; 64];
-    sets[at % 5] = x;
-    write_first(
-        rt, label, states, commands, initial, goal, &sets, count, &mut out, room,
-    )
 }
 
-// Each set has the last state alone. The sheet is read back.
-fn try_large(
+// Sheet S, with room to spare.
+const WRITE_S: Row = Row {
+    label: "write-s-room",
+    states: 2,
+    commands: 2,
+    initial: 3,
+    goal: 1,
+    count: 4,
+    at: 0,
+    set: 2,
+    room: 64,
+};
+
+fn say_reading(rt: &impl Print, label: &str, reading: Result<Head, Refusal>) -> io::Result<()> {
+    match reading {
+        Ok(head) => println!(rt; "{label} ACCEPTED {} {}", head.states, head.commands),
+        Err(refusal) => println!(rt; "{label} REFUSED {refusal}"),
+    }
+}
+
+// Reads the first `length` bytes.
+fn read_first(rt: &impl Print, label: &str, bytes: &[u8], length: usize) -> io::Result<()> {
+    if let Some(sheet) = bytes.get(..length) {
+        say_reading(rt, label, sheet::read(sheet))?;
+    }
+    Ok(())
+}
+
+// S with the byte at `at` changed, of which the first `length` bytes are read.
+fn try_read(rt: &impl Print, label: &str, length: usize, at: usize, byte: u8) -> io::Result<()> {
+    let mut bytes = S;
+    if let Some(place) = bytes.get_mut(at) {
+        *place = byte;
+    }
+    read_first(rt, label, &bytes, length)
+}
+
+// How many bytes the first `length` bytes of S show for a command and a state, and the set that they stand for.
+fn try_show(
     rt: &impl Print,
-    label: &[u8],
-    states: usize,
-    commands: usize,
-    last: u64,
-    count: usize,
+    label: &str,
+    length: usize,
+    command: usize,
+    state: usize,
+) -> io::Result<()> {
+    if let Some(sheet) = S.get(..length) {
+        let shown = shown::following(sheet, command, state);
+        let set = shown::set_at(sheet, shown::states(sheet), command, state);
+        println!(rt; "{label} SHOWN {} {}", shown.len(), u64::from(set))?;
+    }
+    Ok(())
+}
+
+// Prints what writing answered, and whether each byte of the output that was not written holds what it held before.
+fn say_writing(
+    rt: &impl Print,
+    label: &str,
+    writing: Result<usize, Refusal>,
+    out: &[u8],
+) -> io::Result<()> {
+    match writing {
+        Ok(length) => print!(rt; "{label} WRITTEN {length}")?,
+        Err(refusal) => print!(rt; "{label} REFUSED {refusal}")?,
+    }
+    let written = writing.unwrap_or(0);
+    let kept = out.iter().skip(written).all(|byte| *byte == FILL);
+    println!(rt; " {}", if kept { "KEPT" } else { "TOUCHED" })
+}
+
+// Writes a sheet into the first `room` bytes of the output.
+fn write_first(
+    rt: &impl Print,
+    label: &str,
+    head: Head,
+    given: &[u64],
+    out: &mut [u8],
     room: usize,
 ) -> io::Result<()> {
-    let sets = [last; 2048];
+    if let Some(lent) = out.get_mut(..room) {
+        let writing = writer::write(head, given, lent);
+        say_writing(rt, label, writing, out)?;
+    }
+    Ok(())
+}
+
+fn try_write(rt: &impl Print, row: Row) -> io::Result<()> {
+    let head = Head {
+        states: row.states,
+        commands: row.commands,
+        initial: Set::from(row.initial),
+        goal: Set::from(row.goal),
+    };
+    let mut sets = [2, 1, 1, 1, 1];
+    if let Some(place) = sets.get_mut(row.at) {
+        *place = row.set;
+    }
+    let mut out = [FILL; 64];
+    if let Some(given) = sets.get(..row.count) {
+        write_first(rt, row.label, head, given, &mut out, row.room)?;
+    }
+    Ok(())
+}
+
+// A sheet each of whose sets has one state alone. It is read back.
+fn try_large(
+    rt: &impl Print,
+    label: &str,
+    states: usize,
+    commands: usize,
+    state: usize,
+    room: usize,
+) -> io::Result<()> {
+    let set = Set::single(state);
+    let head = Head {
+        states,
+        commands,
+        initial: set,
+        goal: set,
+    };
+    let sets = [u64::from(set); 2048];
     let mut out = [FILL; 16408];
-    write_first(
-        rt, label, states, commands, last, last, &sets, count, &mut out, room,
-    )?;
+    if let Some(given) = sets.get(..states.saturating_mul(commands)) {
+        write_first(rt, label, head, given, &mut out, room)?;
+    }
     read_first(rt, label, &out, room)
 }
 
 fn read_lengths(rt: &impl Print) -> io::Result<()> {
-    try_read(rt, b"version-and-length", 54, 0, 2)?;
-    try_read(rt, b"second-set-4", 55, 38, 4)?;
-    try_read(rt, b"no-bytes", 0, 0, 1)?;
-    try_read(rt, b"four-bytes", 4, 0, 1)?;
-    try_read(rt, b"five-bytes", 5, 0, 1)?;
-    try_read(rt, b"stated-17", 22, 4, 17)?;
-    try_read(rt, b"stated-18", 23, 4, 18)?;
-    try_read(rt, b"one-byte-few", 54, 0, 1)?;
-    try_read(rt, b"one-byte-many", 56, 0, 1)?;
-    try_read(rt, b"stated-one-few", 55, 4, 49)?;
-    try_read(rt, b"stated-one-many", 55, 4, 51)?;
-    try_read(rt, b"both-one-few", 54, 4, 49)?;
-    try_read(rt, b"both-one-many", 56, 4, 51)?;
-    say_reading(rt, b"stated-most", sheet::read(&[1, 255, 255, 255, 255]))
+    for (label, length, at, byte) in [
+        ("version-and-length", 54, 0, 2),
+        ("second-set-4", 55, 38, 4),
+        ("no-bytes", 0, 0, 1),
+        ("four-bytes", 4, 0, 1),
+        ("five-bytes", 5, 0, 1),
+        ("stated-17", 22, 4, 17),
+        ("stated-18", 23, 4, 18),
+        ("one-byte-few", 54, 0, 1),
+        ("one-byte-many", 56, 0, 1),
+        ("stated-one-few", 55, 4, 49),
+        ("stated-one-many", 55, 4, 51),
+        ("both-one-few", 54, 4, 49),
+        ("both-one-many", 56, 4, 51),
+    ] {
+        try_read(rt, label, length, at, byte)?;
+    }
+    say_reading(rt, "stated-most", sheet::read(&[1, 255, 255, 255, 255]))
 }
 
 fn read_counts(rt: &impl Print) -> io::Result<()> {
-    try_read(rt, b"sheet-s", 55, 0, 1)?;
-    try_read(rt, b"version-0", 55, 0, 0)?;
-    try_read(rt, b"states-0", 55, 5, 0)?;
-    try_read(rt, b"states-1", 55, 5, 1)?;
-    try_read(rt, b"states-64", 55, 5, 64)?;
-    try_read(rt, b"states-65", 55, 5, 65)?;
-    try_read(rt, b"states-255", 55, 5, 255)?;
-    try_read(rt, b"commands-0", 55, 6, 0)?;
-    try_read(rt, b"commands-1", 55, 6, 1)?;
-    try_read(rt, b"commands-32", 55, 6, 32)?;
-    try_read(rt, b"commands-33", 55, 6, 33)
+    for (label, at, byte) in [
+        ("sheet-s", 0, 1),
+        ("version-0", 0, 0),
+        ("states-0", 5, 0),
+        ("states-1", 5, 1),
+        ("states-64", 5, 64),
+        ("states-65", 5, 65),
+        ("states-255", 5, 255),
+        ("commands-0", 6, 0),
+        ("commands-1", 6, 1),
+        ("commands-32", 6, 32),
+        ("commands-33", 6, 33),
+    ] {
+        try_read(rt, label, 55, at, byte)?;
+    }
+    Ok(())
 }
 
 fn read_sets(rt: &impl Print) -> io::Result<()> {
-    try_read(rt, b"initial-0", 55, 14, 0)?;
-    try_read(rt, b"initial-4", 55, 14, 4)?;
-    try_read(rt, b"initial-top", 55, 7, 128)?;
-    try_read(rt, b"goal-0", 55, 22, 0)?;
-    try_read(rt, b"goal-4", 55, 22, 4)?;
-    try_read(rt, b"first-set-4", 55, 30, 4)?;
-    try_read(rt, b"last-set-4", 55, 54, 4)
+    for (label, at, byte) in [
+        ("initial-0", 14, 0),
+        ("initial-4", 14, 4),
+        ("initial-top", 7, 128),
+        ("goal-0", 22, 0),
+        ("goal-4", 22, 4),
+        ("first-set-4", 30, 4),
+        ("last-set-4", 54, 4),
+    ] {
+        try_read(rt, label, 55, at, byte)?;
+    }
+    Ok(())
+}
+
+fn write_rooms(rt: &impl Print) -> io::Result<()> {
+    for (label, room) in [
+        ("write-s", 55),
+        ("write-s-room", 64),
+        ("write-one-short", 54),
+        ("write-no-room", 0),
+    ] {
+        try_write(
+            rt,
+            Row {
+                label,
+                room,
+                ..WRITE_S
+            },
+        )?;
+    }
+    Ok(())
 }
 
 fn write_counts(rt: &impl Print) -> io::Result<()> {
-    try_write(rt, b"write-s", 2, 2, 3, 1, 4, 0, 2, 55)?;
-    try_write(rt, b"write-s-room", 2, 2, 3, 1, 4, 0, 2, 64)?;
-    try_write(rt, b"write-one-short", 2, 2, 3, 1, 4, 0, 2, 54)?;
-    try_write(rt, b"write-no-room", 2, 2, 3, 1, 4, 0, 2, 0)?;
-    try_write(rt, b"write-states-0", 0, 2, 3, 1, 4, 0, 2, 64)?;
-    try_write(rt, b"write-states-65", 65, 33, 3, 1, 4, 0, 2, 64)?;
-    try_write(
-        rt,
-        b"write-states-most",
-        0xffff_ffff_ffff_ffff,
-        2,
-        3,
-        1,
-        4,
-        0,
-        2,
-        64,
-    )?;
-    try_write(rt, b"write-commands-0", 2, 0, 3, 1, 4, 0, 2, 64)?;
-    try_write(rt, b"write-commands-33", 2, 33, 3, 1, 4, 0, 2, 64)?;
-    try_write(
-        rt,
-        b"write-commands-most",
-        2,
-        0xffff_ffff_ffff_ffff,
-        3,
-        1,
-        4,
-        0,
-        2,
-        64,
-    )
+    for (label, states, commands) in [
+        ("write-states-0", 0, 2),
+        ("write-states-65", 65, 33),
+        ("write-states-most", usize::MAX, 2),
+        ("write-commands-0", 2, 0),
+        ("write-commands-33", 2, 33),
+        ("write-commands-most", 2, usize::MAX),
+    ] {
+        try_write(
+            rt,
+            Row {
+                label,
+                states,
+                commands,
+                ..WRITE_S
+            },
+        )?;
+    }
+    Ok(())
 }
 
 fn write_sets(rt: &impl Print) -> io::Result<()> {
-    try_write(rt, b"write-sets-3", 2, 2, 0, 1, 3, 0, 2, 64)?;
-    try_write(rt, b"write-sets-5", 2, 2, 3, 1, 5, 0, 2, 64)?;
-    try_write(rt, b"write-initial-0", 2, 2, 0, 4, 4, 0, 2, 64)?;
-    try_write(rt, b"write-initial-4", 2, 2, 4, 1, 4, 0, 2, 64)?;
-    try_write(rt, b"write-goal-0", 2, 2, 3, 0, 4, 0, 2, 64)?;
-    try_write(rt, b"write-goal-4", 2, 2, 3, 4, 4, 0, 4, 64)?;
-    try_write(rt, b"write-first-set-4", 2, 2, 3, 1, 4, 0, 4, 54)?;
-    try_write(rt, b"write-last-set-4", 2, 2, 3, 1, 4, 3, 4, 64)
+    for (label, initial, goal, count, at, set, room) in [
+        ("write-sets-3", 0, 1, 3, 0, 2, 64),
+        ("write-sets-5", 3, 1, 5, 0, 2, 64),
+        ("write-initial-0", 0, 4, 4, 0, 2, 64),
+        ("write-initial-4", 4, 1, 4, 0, 2, 64),
+        ("write-goal-0", 3, 0, 4, 0, 2, 64),
+        ("write-goal-4", 3, 4, 4, 0, 4, 64),
+        ("write-first-set-4", 3, 1, 4, 0, 4, 54),
+        ("write-last-set-4", 3, 1, 4, 3, 4, 64),
+    ] {
+        try_write(
+            rt,
+            Row {
+                label,
+                initial,
+                goal,
+                count,
+                at,
+                set,
+                room,
+                ..WRITE_S
+            },
+        )?;
+    }
+    Ok(())
 }
 
 fn largest(rt: &impl Print) -> io::Result<()> {
-    try_large(rt, b"one-by-one", 1, 1, 1, 1, 31)?;
-    try_large(rt, b"one-by-32", 1, 32, 1, 32, 279)?;
-    try_large(rt, b"64-by-one", 64, 1, 0x8000_0000_0000_0000, 64, 535)?;
-    try_large(rt, b"largest", 64, 32, 0x8000_0000_0000_0000, 2048, 16407)?;
-    try_large(
-        rt,
-        b"largest-short",
-        64,
-        32,
-        0x8000_0000_0000_0000,
-        2048,
-        16406,
-    )?;
-    try_large(rt, b"63-by-32", 63, 32, 0x8000_0000_0000_0000, 2016, 16151)
+    for (label, states, commands, state, room) in [
+        ("one-by-one", 1, 1, 0, 31),
+        ("one-by-32", 1, 32, 0, 279),
+        ("64-by-one", 64, 1, 63, 535),
+        ("largest", 64, 32, 63, 16407),
+        ("largest-short", 64, 32, 63, 16406),
+        ("63-by-32", 63, 32, 63, 16151),
+    ] {
+        try_large(rt, label, states, commands, state, room)?;
+    }
+    Ok(())
 }
 
 fn show_sets(rt: &impl Print) -> io::Result<()> {
-    try_show(rt, b"show-0-0", 55, 0, 0)?;
-    try_show(rt, b"show-0-1", 55, 0, 1)?;
-    try_show(rt, b"show-1-1", 55, 1, 1)?;
-    try_show(rt, b"show-2-0", 55, 2, 0)?;
-    try_show(rt, b"show-0-2", 55, 0, 2)?;
-    try_show(
-        rt,
-        b"show-most",
-        55,
-        0xffff_ffff_ffff_ffff,
-        0xffff_ffff_ffff_ffff,
-    )?;
-    try_show(rt, b"show-refused", 54, 0, 0)
+    for (label, length, command, state) in [
+        ("show-0-0", 55, 0, 0),
+        ("show-0-1", 55, 0, 1),
+        ("show-1-1", 55, 1, 1),
+        ("show-2-0", 55, 2, 0),
+        ("show-0-2", 55, 0, 2),
+        ("show-most", 55, usize::MAX, usize::MAX),
+        ("show-refused", 54, 0, 0),
+    ] {
+        try_show(rt, label, length, command, state)?;
+    }
+    Ok(())
 }
 
 fn main(rt: HostRuntime) -> io::Result<()> {
     read_lengths(&rt)?;
     read_counts(&rt)?;
     read_sets(&rt)?;
+    write_rooms(&rt)?;
     write_counts(&rt)?;
     write_sets(&rt)?;
     largest(&rt)?;

@@ -10,14 +10,13 @@ use lib.Arith.{digits_lt}
 use lib.Dec.{ltb, leb}
 use lib.ListN.{length, get_or}
 use borrow.Author.Tests.{lt-ltb, le-ltb, le-leb, lt-leb, ltb-true, ltb-false}
+use Rattle.std.specs.Prelude.{Err, Ok}
 use Rattle.numbers.specs.Bytes.{number, part}
 use Rattle.sheet.specs.Sheet.{sheet_in, domain, domain_in, set_offset, set_in, set_width, length_for, states_in, commands_in}
-use Rattle.sheet.specs.Answers.{shown_head, reading}
+use Rattle.sheet.specs.Answers.{shown_head, reading, Reading}
 use Rattle.shown.specs.Following.{following, following_from}
 use Rattle.shown.specs.Shown.{is_shown, shown_at, shown_from}
 use Rattle.sheet.specs.declared.Head.{Head}
-use Rattle.sheet.specs.declared.Reading.{Reading}
-use Rattle.sheet.specs.declared.Reading.TheVariants.{Accepted, Refused}
 use Rattle.sheet.proofs.Rows.{get_or_from_0}
 use Rattle.sheet.proofs.Accepts.{Accepts, reading_accepts}
 
@@ -67,7 +66,7 @@ module _ (l : List ℕ) (t : Accepts l) (a s : ℕ) where
       go true e false f = simp (e, f)
       go false e c f = simp e
 
-module _ (l : List ℕ) (h : Head) (e : reading l ≡ Accepted h) (a s : ℕ) where
+module _ (l : List ℕ) (h : Head) (e : reading l ≡ Ok h) (a s : ℕ) where
   -- as a number it is the domain's following set, for any command and any state
   pub set_is_follow : number (shown_at l h.states a s) ≡ (domain_in l).follow a s
   set_is_follow =
@@ -86,8 +85,8 @@ module _ (l : List ℕ) (a s : ℕ) where
       Claim h = is_shown (length l) h.states a s ≡ (ltb a h.commands && ltb s h.states)
 
       go : (r : Reading) → reading l ≡ r → Claim (shown_head (reading l))
-      go (Accepted h) e = let t = reading_accepts l h e in subst (λ (r : Reading). Claim (shown_head r)) (sym e) (subst Claim (sym t.head) (there l t.accepts a s))
-      go (Refused q) e = subst (λ (r : Reading). Claim (shown_head r)) (sym e) (simp (le-ltb s 0 (omega arith), le-ltb a 0 (omega arith)))
+      go (Ok h) e = let t = reading_accepts l h e in subst (λ (r : Reading). Claim (shown_head r)) (sym e) (subst Claim (sym t.head) (there l t.accepts a s))
+      go (Err q) e = subst (λ (r : Reading). Claim (shown_head r)) (sym e) (simp (le-ltb s 0 (omega arith), le-ltb a 0 (omega arith)))
 
   pub shown_following : shown_at l (shown_head (reading l)).states a s ≡ following l a s
   unfolding shown_at

@@ -6,49 +6,41 @@ ghost use Rattle.sets.specs.Words.{set_for};
 ghost use Rattle.numbers.specs.Bytes.{number, IsPart};
 ghost use Rattle.sheet.specs.Answers.{reading, shown_head};
 ghost use Rattle.shown.specs.Following.{following, following_from};
-ghost use Rattle.shown.specs.Shown.{is_shown, shown_at, shown_from};
+ghost use Rattle.shown.specs.Shown.{offset_of, shown_at, shown_from};
 
 use sets::Set;
-use sheet::{Head, SET_WIDTH, SETS_AT, head_of, read, set_in};
+use sheet::{Head, SET_WIDTH, SETS_AT, read, set_in};
 
-// Is there a following set of that command and state?
-fn is_shown(length: usize, states: usize, command: usize, state: usize) -> bool
-    ensures { result ≡ is_shown length states command state }
+// The offset of the following set of a command and a state, by the sheet's length, and none where it is missing.
+#[tactic(auto, unfolding(crate::specs::Shown::offset_of, crate::specs::Shown::is_shown))]
+fn offset_of(length: usize, states: usize, command: usize, state: usize) -> Option<usize>
+    ensures { result ≡ offset_of length states command state }
 {
-    if states <= state {
-        return false;
+    if state < states && states <= 64 && command < 32 {
+        let at = SETS_AT + SET_WIDTH * (command * states + state);
+        (at + SET_WIDTH <= length).then_some(at)
+    } else {
+        None
     }
-    if 64 < states {
-        return false;
-    }
-    if 32 <= command {
-        return false;
-    }
-    SETS_AT + SET_WIDTH * (command * states + state) + SET_WIDTH <= length
 }
 
-// The bytes of a following set, by a count of states that the caller has from the head, and no bytes where it is missing.
+// The bytes of a following set, by a count of states that the caller has from the head, and no bytes where it is missing. Kept on bytes and numbers, as the
+// first of the two forms of the reading view; `view` has the struct.
 pub fn shown_at<'a>(sheet: &'a [u8], states: usize, command: usize, state: usize) -> &'a [u8]
     ensures { IsPart sheet.entry (shown_from sheet.now states command state) (shown_at sheet.now states command state) result }
 {
-    if is_shown(sheet.len(), states, command, state) {
-        let at = SETS_AT + SET_WIDTH * (command * states + state);
-        let end = at + SET_WIDTH;
-        &sheet[at..end]
-    } else {
-        &sheet[0..0]
+    match offset_of(sheet.len(), states, command, state) {
+        Some(at) => &sheet[at..at + SET_WIDTH],
+        None => &sheet[..0],
     }
 }
 
 // Where these bytes begin in the sheet: at 0 where there are none.
+#[tactic(auto, unfolding(crate::specs::Shown::offset_of, crate::specs::Shown::shown_from))]
 fn shown_from(sheet: &[u8], states: usize, command: usize, state: usize) -> usize
     ensures { result ≡ shown_from sheet.now states command state }
 {
-    if is_shown(sheet.len(), states, command, state) {
-        SETS_AT + SET_WIDTH * (command * states + state)
-    } else {
-        0
-    }
+    offset_of(sheet.len(), states, command, state).unwrap_or(0)
 }
 
 // The following set, and the empty set where it is missing.
@@ -59,15 +51,20 @@ pub fn set_at(sheet: &[u8], states: usize, command: usize, state: usize) -> Set
     if set.len() == SET_WIDTH {
         set_in(set, 0)
     } else {
-        sets::empty()
+        Set::empty()
     }
 }
 
-// The head of a sheet.
+// The head of a sheet: one with no states and no commands where it is refused.
 pub fn shown_head(sheet: &[u8]) -> Head
     ensures { result ≡ shown_head (reading sheet.now) }
 {
-    head_of(read(sheet))
+    read(sheet).unwrap_or(Head {
+        states: 0,
+        commands: 0,
+        initial: Set::empty(),
+        goal: Set::empty(),
+    })
 }
 
 // How many states and commands a sheet has.
@@ -91,7 +88,7 @@ pub fn following<'a>(sheet: &'a [u8], command: usize, state: usize) -> &'a [u8]
 }
 
 // Where these bytes stand in the sheet: an offset and how many they are, both 0 where there are none.
-#[derive(Clone, Copy)]
+#[derive(Clone, Copy, Debug, PartialEq, Eq)]
 pub struct Span {
     pub from: usize,
     pub length: usize,

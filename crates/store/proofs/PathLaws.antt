@@ -5,8 +5,10 @@ use mathlib.Core.Logic.{◌≢◌}
 use mathlib.Core.List.{List, [], ◌∷◌, ◌++◌}
 use Prim.Native.Nat.{ℕ, suc, ◌+◌, ◌-◌, ◌≤◌, ◌<◌}
 use native.Mathlib.Nat.{add-zero}
+use Rattle.std.proofs.Common.{zero-add}
+use Rattle.std.proofs.lemmas.List.{append-nil}
 use native.Mathlib.Omega.{arith}
-use lib.ListN.{length, take, drop, set, get_or, length-append, length-drop, take-append-drop}
+use lib.ListN.{length, take, drop, set, get_or, length-append, take-append-drop}
 use lib.Seq.{take-suc, append_snoc, set_at, length-take-le}
 use Rattle.meaning.specs.Listing.{then}
 use Rattle.store.specs.declared.Node.{Node}
@@ -45,10 +47,6 @@ pub record Behind (l : List Node) (at i n : ℕ) : Type 0 where
   pub as_long : length passed ≡ n
   pub joins : {p : List ℕ} → Path l i p → Path l at (p ++ passed)
   pub below : n + i ≤ at
-
-append-nil : (p : List ℕ) → p ++ [] ≡ p
-append-nil [] = refl
-append-nil (a ∷ p) = ap (λ (q : List ℕ). a ∷ q) (append-nil p)
 
 pub behind_start : {l : List Node} {at : ℕ} → HasPath l at → Behind l at at 0
 behind_start {l} {at} h = record {
@@ -127,37 +125,16 @@ module _ {l : List Node} {at total : ℕ} {before after : List ℕ} {i left : �
           (w.now_is ∙ ap (λ (k : ℕ). take k before ++ X) (sym e) ∙ ap (λ (r : List ℕ). r ++ X) (take-suc before m 0 h) ∙ append_snoc (take m before) (get_or before m 0) X)
           ∙ set_at (take m before) (get_or before m 0) X (node_at l i).command m (length-take-le m before (omega (arith, h)))
 
-  -- one command more is written, that of the record m at place i
-  pub writing-turn : {m : Node} {r : List ℕ} → m ≡ node_at l i → r ≡ set after (left - 1) m.command → Writing l at total before r m.parent (left - 1)
-  writing-turn {m} {r} e f = subst (λ (n : Node). r ≡ set after (left - 1) n.command → Writing l at total before r n.parent (left - 1)) (sym e)
-      (λ g. subst (λ (b : List ℕ). Writing l at total before b (node_at l i).parent (left - 1)) (sym g) writing_more) f
-
--- the plan buffer keeps its length
-pub writing-long : {l : List Node} {at total : ℕ} {before after : List ℕ} {i left : ℕ} → Writing l at total before after i left → length after ≡ length before
-writing-long {total = total} {before} {left = left} w = omega (
-  arith,
-  ap length w.now_is,
-  length-append (take left before) (w.passed ++ drop total before),
-  length-append w.passed (drop total before),
-  length-take-le left before (omega (arith, w.as_long, w.fits)),
-  length-drop total before,
-  w.as_long,
-  w.fits,
-)
-
 pub writing_end : {l : List Node} {at total : ℕ} {before after : List ℕ} {i left : ℕ} → Writing l at total before after i left → left ≡ 0 → WrittenBack l at before after
 writing_end {l} {at} {total} {before} {after} {i} {left} w z = record {
   path = w.passed;
   follows = w.joins (subst (λ (p : List ℕ). Path l i p) (none w.rest.path (w.rest.as_long ∙ z)) w.rest.follows);
-  written = w.now_is ∙ ap (λ (k : ℕ). take k before ++ (w.passed ++ drop total before)) z ∙ ap (λ (k : ℕ). w.passed ++ drop k before) (sym w.as_long ∙ ap (λ (k : ℕ). k + length w.passed) z ∙ zero_plus (length w.passed));
+  written = w.now_is ∙ ap (λ (k : ℕ). take k before ++ (w.passed ++ drop total before)) z ∙ ap (λ (k : ℕ). w.passed ++ drop k before) (sym w.as_long ∙ ap (λ (k : ℕ). k + length w.passed) z ∙ zero-add (length w.passed));
 }
   where
     none : (p : List ℕ) → length p ≡ 0 → p ≡ []
     none [] e = refl
     none (a ∷ p) e = absurd (omega (arith, e))
-
-    zero_plus : (n : ℕ) → 0 + n ≡ n
-    zero_plus n = omega arith
 
 -- ---- both
 
@@ -178,6 +155,3 @@ read_fits {l} {at} {r} {before} {after} n w f =
       fits = λ h. w.written;
       too_long = λ h. absurd (omega (arith, h, f, ap length same, n.as_long));
     }
-
-pub read_long : {l : List Node} {at r : ℕ} {before : List ℕ} → LengthOf l at r → length before < r → ReadBack l at before before r
-read_long n f = record { path = n.path; follows = n.follows; as_long = n.as_long; fits = λ h. absurd (omega (arith, h, f, n.as_long)); too_long = λ h. refl }

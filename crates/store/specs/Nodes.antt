@@ -1,5 +1,5 @@
 -- Records of the store in the words of `meaning`, and what a look-up says.
-use Rattle.std.specs.Prelude.{◌≡◌, ◌≢◌, List, ℕ, ◌≤◌, ◌<◌, get_or}
+use Rattle.std.specs.Prelude.{◌≡◌, ◌≢◌, List, ℕ, ◌<◌, get_or, Option, Some, None}
 use Rattle.meaning.specs.Sets.{empty}
 use Rattle.meaning.specs.Listing as listing
 use Rattle.sets.specs.Words.{Value, set_of, set_for}
@@ -26,8 +26,7 @@ meant n = record { set = set_of n.set; parent = n.parent; command = n.command }
 abbrev pub node_for : listing.Node → Node
 node_for n = node (set_for n.set) n.parent n.command
 
--- r is a place among the first `count` that holds the set y, or `count` where there is none
-pub record Found (l : List Node) (count y r : ℕ) : Type 0 where
-  pub within : r ≤ count
-  pub here : r < count → set_at l r ≡ y
-  pub nowhere : r ≡ count → (k : ℕ) → k < count → set_at l k ≢ y
+-- what is said of a look-up of the set y among the first `count` places: Some k is a place of them that holds it, and None says that none of them does
+pub record Found (l : List Node) (count y : ℕ) (r : Option ℕ) : Type 0 where
+  pub here : (k : ℕ) → r ≡ Some k → (k < count) × (set_at l k ≡ y)
+  pub nowhere : r ≡ None → (k : ℕ) → k < count → set_at l k ≢ y

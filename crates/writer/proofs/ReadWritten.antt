@@ -8,21 +8,16 @@ use native.Mathlib.Omega.{arith}
 use lib.ListN.{length, take, drop}
 use lib.Seq.{take_at}
 use borrow.Author.Tests.{le-ltb, ltb-false, eq-eqb, eqb-true, not-false}
+use Rattle.std.specs.Prelude.{Err, Ok}
 use Rattle.meaning.proofs.Tests.{clash}
-use Rattle.sets.specs.Words.{set_of}
 use Rattle.sets.proofs.Values.{set_for_lem}
 use Rattle.sheet.specs.Sheet.{Sheet, Valid, encode, sheet_in, sheet_with, length_for, domain, domain_in}
-use Rattle.sheet.specs.Refusals.{Row, verdict, sheet_rows}
-use Rattle.sheet.specs.Answers.{head_of, reading, ReadAs}
+use Rattle.sheet.specs.Refusals.{Row, verdict, sheet_rows, Check, check, passes}
+use Rattle.sheet.specs.Answers.{head_of, sheet_of, reading, ReadAs, Reading}
 use Rattle.writer.specs.Written.{writing, written, room_row, writing_rows}
 use Rattle.sheet.specs.declared.Head.{Head}
-use Rattle.sheet.specs.declared.Reading.{Reading}
-use Rattle.sheet.specs.declared.Reading.TheVariants.{Accepted}
-use Rattle.writer.specs.declared.Writing.TheVariants.{Written, Refused}
 use Rattle.sheet.specs.declared.Counted.{Counted}
 use Rattle.sheet.specs.declared.Counted.TheVariants.{Given}
-use Rattle.sheet.specs.declared.Check.{Check}
-use Rattle.sheet.specs.declared.Check.TheVariants.{Passed, Failed}
 use Rattle.sheet.proofs.Rows.{on_check, by_check, verdict-append}
 use Rattle.sheet.proofs.ValidLaws.{NoneHold, none_here, none-cons, none-nil, valid, even, passes_valid}
 use Rattle.sheet.proofs.Fields.{length-encode}
@@ -34,18 +29,18 @@ use Rattle.sheet.proofs.Accepted.{encoded_accepted}
 -- ---- the rows of writing, in two parts
 
 none-append : (rs qs : List Row) → NoneHold rs → NoneHold qs → NoneHold (rs ++ qs)
-none-append rs qs n m = record { passes = verdict-append Failed Passed rs qs ∙ ap (λ (k : Check). verdict Failed k rs) m.passes ∙ n.passes }
+none-append rs qs n m = record { passes = verdict-append Err passes rs qs ∙ ap (λ (k : Check). verdict Err k rs) m.passes ∙ n.passes }
 
 none_first : (rs qs : List Row) → NoneHold (rs ++ qs) → NoneHold rs × NoneHold qs
-none_first rs qs n = go (verdict Failed Passed rs) refl
+none_first rs qs n = go (check rs) refl
   where
-    split : verdict Failed Passed (rs ++ qs) ≡ on_check Failed (verdict Failed Passed qs) (verdict Failed Passed rs)
-    split = verdict-append Failed Passed rs qs ∙ by_check Failed (verdict Failed Passed qs) rs
+    split : check (rs ++ qs) ≡ on_check Err (check qs) (check rs)
+    split = verdict-append Err passes rs qs ∙ by_check Err (check qs) rs
 
-    go : (k : Check) → verdict Failed Passed rs ≡ k → NoneHold rs × NoneHold qs
-    go Passed e = (record { passes = e }, record { passes = sym (split ∙ ap (λ (k : Check). on_check Failed (verdict Failed Passed qs) k) e) ∙ n.passes })
-    go (Failed q) e =
-        let f : Failed q ≡ Passed = sym (split ∙ ap (λ (k : Check). on_check Failed (verdict Failed Passed qs) k) e) ∙ n.passes in
+    go : (k : Check) → check rs ≡ k → NoneHold rs × NoneHold qs
+    go (Ok tt) e = (record { passes = e }, record { passes = sym (split ∙ ap (λ (k : Check). on_check Err (check qs) k) e) ∙ n.passes })
+    go (Err q) e =
+        let f : Err q ≡ passes = sym (split ∙ ap (λ (k : Check). on_check Err (check qs) k) e) ∙ n.passes in
         absurd (clash (cc))
 
 -- a sheet that can be written, and the room for it
@@ -72,19 +67,19 @@ writes_none s room w =
 -- ---- what is written
 
 module _ (s : Sheet) (out : List ℕ) where
-  pub written_when : (k : ℕ) → writing s (length out) ≡ Written k → Writes s (length out) × (length_for s.states s.commands ≡ k)
-  written_when k e = go (verdict Failed Passed (writing_rows s (length out))) refl
+  pub written_when : (k : ℕ) → writing s (length out) ≡ Ok k → Writes s (length out) × (length_for s.states s.commands ≡ k)
+  written_when k e = go (check (writing_rows s (length out))) refl
     where
-      go : (c : Check) → verdict Failed Passed (writing_rows s (length out)) ≡ c → Writes s (length out) × (length_for s.states s.commands ≡ k)
-      go Passed p =
-          let f : Written (length_for s.states s.commands) ≡ Written k = sym (writing-by s (length out) ∙ ap (λ (c : Check). on_check Refused (Written (length_for s.states s.commands)) c) p) ∙ e in
+      go : (c : Check) → check (writing_rows s (length out)) ≡ c → Writes s (length out) × (length_for s.states s.commands ≡ k)
+      go (Ok tt) p =
+          let f : Ok (length_for s.states s.commands) ≡ Ok k = sym (writing-by s (length out) ∙ ap (λ (c : Check). on_check Err (Ok (length_for s.states s.commands)) c) p) ∙ e in
           (none_writes s (length out) (record { passes = p }), cc)
-      go (Failed q) p =
-          let f : Refused q ≡ Written k = sym (writing-by s (length out) ∙ ap (λ (c : Check). on_check Refused (Written (length_for s.states s.commands)) c) p) ∙ e in
+      go (Err q) p =
+          let f : Err q ≡ Ok k = sym (writing-by s (length out) ∙ ap (λ (c : Check). on_check Err (Ok (length_for s.states s.commands)) c) p) ∙ e in
           absurd (clash (cc))
 
-  pub writes_answer : Writes s (length out) → writing s (length out) ≡ Written (length_for s.states s.commands)
-  writes_answer w = writing-by s (length out) ∙ ap (λ (c : Check). on_check Refused (Written (length_for s.states s.commands)) c) (writes_none s (length out) w).passes
+  pub writes_answer : Writes s (length out) → writing s (length out) ≡ Ok (length_for s.states s.commands)
+  writes_answer w = writing-by s (length out) ∙ ap (λ (c : Check). on_check Err (Ok (length_for s.states s.commands)) c) (writes_none s (length out) w).passes
 
   pub writes_output : Writes s (length out) → written s out ≡ encode s ++ drop (length_for s.states s.commands) out
   writes_output w = written-by s out ∙ ap (λ (c : Check). on_check (λ _. out) (encode s ++ drop (length_for s.states s.commands) out) c) (writes_none s (length out) w).passes
@@ -96,11 +91,11 @@ module _ (s : Sheet) (out : List ℕ) where
 
 -- bytes that are accepted and hold the sheet s, each following set of it too
 pub record ReadsBack (s : Sheet) (l : List ℕ) : Type 0 where
-  pub accepted : reading l ≡ Accepted (head_of s)
+  pub accepted : reading l ≡ Ok (head_of s)
   pub same_sheet : sheet_in l ≡ s
   pub same_domain : domain_in l ≡ domain s
 
-pub read_written : (s : Sheet) (out : List ℕ) (k : ℕ) → writing s (length out) ≡ Written k → ReadsBack s (take k (written s out))
+pub read_written : (s : Sheet) (out : List ℕ) (k : ℕ) → writing s (length out) ≡ Ok k → ReadsBack s (take k (written s out))
 read_written s out k e =
     let w = written_when s out k e in
     let v = w.0.is_valid in
@@ -115,22 +110,22 @@ read_written s out k e =
 
 -- the sheet with this head and the following sets that the bytes hold
 abbrev pub reread : Head → List ℕ → Sheet
-reread h l = sheet_with h.states h.commands (set_of h.initial) (set_of h.goal) (sheet_in l).sets
+reread h l = sheet_of h (sheet_in l).sets
 
 reread_own : (l : List ℕ) → reread (head_of (sheet_in l)) l ≡ sheet_in l
 reread_own l = let s : Sheet = sheet_in l in ap₂ (λ (x y : ℕ). sheet_with s.states s.commands x y s.sets) (set_for_lem s.initial) (set_for_lem s.goal)
 
 pub record Rewrites (h : Head) (l out : List ℕ) : Type 0 where
-  pub answer : writing (reread h l) (length out) ≡ Written (length l)
+  pub answer : writing (reread h l) (length out) ≡ Ok (length l)
   pub output : written (reread h l) out ≡ l ++ drop (length l) out
 
-pub rewritten : (l : List ℕ) {r : Reading} → ReadAs l r → (h : Head) → r ≡ Accepted h → (out : List ℕ) → length l ≤ length out → Rewrites h l out
+pub rewritten : (l : List ℕ) {r : Reading} → ReadAs l r → (h : Head) → r ≡ Ok h → (out : List ℕ) → length l ≤ length out → Rewrites h l out
 rewritten l {r} u h e out room =
     let t = reading_accepts l h (sym u.answer ∙ e) in
     let same : reread h l ≡ sheet_in l = ap (λ (g : Head). reread g l) t.head ∙ reread_own l in
     let n : length_for (sheet_in l).states (sheet_in l).commands ≡ length l = sym t.accepts.long in
     let w : Writes (sheet_in l) (length out) = record { is_valid = t.accepts.is_valid; fits = omega (arith, n, room) } in
     record {
-      answer = ap (λ (s : Sheet). writing s (length out)) same ∙ writes_answer (sheet_in l) out w ∙ ap Written n;
+      answer = ap (λ (s : Sheet). writing s (length out)) same ∙ writes_answer (sheet_in l) out w ∙ ap Ok n;
       output = ap (λ (s : Sheet). written s out) same ∙ writes_output (sheet_in l) out w ∙ ap₂ (λ (m : List ℕ) (k : ℕ). m ++ drop k out) (encode_in l (u.bytes.are_bytes e) t.accepts) n;
     }

@@ -5,8 +5,7 @@ use mathlib.Core.List.{List}
 use Prim.Native.Nat.{ℕ}
 use Rattle.sheet.specs.Sheet.{Sheet}
 use Rattle.sheet.proofs.Unique.{one_answer}
-use Rattle.writer.specs.Written.{Wrote}
-use Rattle.writer.specs.declared.Writing.{Writing}
+use Rattle.writer.specs.Written.{Wrote, Writing}
 
 pub write_unique : (s : Sheet) (before after other : List ℕ) (r q : Writing) → Wrote s before after r → Wrote s before other q → (r ≡ q) × (after ≡ other)
 write_unique s before after other r q v w = (one_answer v.answer w.answer, one_answer v.output w.output)

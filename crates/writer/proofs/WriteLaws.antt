@@ -8,15 +8,14 @@ use native.Mathlib.Omega.{arith}
 use lib.ListN.{length, drop}
 use lib.Seq.{sets, sets-eq}
 use borrow.Author.Tests.{lt-ltb, le-ltb}
+use Rattle.std.specs.Prelude.{Err, Ok}
 use Rattle.numbers.specs.Bytes.{bytes_of_each}
+use Rattle.sheet.specs.declared.Reason.TheVariants.{Output}
 use Rattle.sheet.specs.Sheet.{Sheet, head_bytes, encode, sets_at, set_width, length_for}
-use Rattle.sheet.specs.Refusals.{Row, verdict, head_rows, set_rows}
-use Rattle.writer.specs.Written.{writing, written, writing_by, written_by, room_row, writing_rows}
+use Rattle.sheet.specs.Refusals.{refusal, Row, verdict, head_rows, set_rows, Check, check, passes}
+use Rattle.writer.specs.Written.{writing, written, writing_by, written_by, room_row, writing_rows, Writing}
 use Rattle.sheet.specs.declared.Refusal.{Refusal}
-use Rattle.writer.specs.declared.Writing.TheVariants.{Written, Refused}
 use Rattle.sheet.specs.declared.Counted.TheVariants.{Given}
-use Rattle.sheet.specs.declared.Check.{Check}
-use Rattle.sheet.specs.declared.Check.TheVariants.{Passed, Failed}
 use Rattle.sheet.proofs.Rows.{on_check, checked, by_check}
 use Rattle.sheet.proofs.ReadLaws.{check_by}
 use Rattle.sheet.proofs.Fields.{field, head_fields, laid_head, laid_sets, laid_sheet, length-encode}
@@ -27,7 +26,7 @@ abbrev pub head_check : Sheet → Check
 head_check s = check_by (Given (length s.sets)) s.states s.commands s.initial s.goal
 
 abbrev pub sets_check : Sheet → Check
-sets_check s = verdict Failed Passed (set_rows s.states sets_at s.sets)
+sets_check s = check (set_rows s.states sets_at s.sets)
 
 -- whatever is answered by the rows of writing, with the length of the output
 module _ {A : Type 0} (refused : Refusal → A) (otherwise : A) (s : Sheet) (room : ℕ) where
@@ -42,13 +41,13 @@ module _ {A : Type 0} (refused : Refusal → A) (otherwise : A) (s : Sheet) (roo
       ∙ checked refused otherwise (head_rows (Given (length s.sets)) s.states s.commands s.initial s.goal) (set_rows s.states sets_at s.sets ++ (room_row s room ∷ []))
       ∙ ap (λ (a : A). on_check refused a (head_check s)) (checked refused otherwise (set_rows s.states sets_at s.sets) (room_row s room ∷ []))
 
-  pub head_fails : (q : Refusal) → head_check s ≡ Failed q → verdict refused otherwise (writing_rows s room) ≡ refused q
+  pub head_fails : (q : Refusal) → head_check s ≡ Err q → verdict refused otherwise (writing_rows s room) ≡ refused q
   head_fails q e = by_checks ∙ ap (λ (k : Check). on_check refused (on_check refused by_room (sets_check s)) k) e
 
-  pub sets_fail : head_check s ≡ Passed → (q : Refusal) → sets_check s ≡ Failed q → verdict refused otherwise (writing_rows s room) ≡ refused q
+  pub sets_fail : head_check s ≡ passes → (q : Refusal) → sets_check s ≡ Err q → verdict refused otherwise (writing_rows s room) ≡ refused q
   sets_fail e q f = by_checks ∙ ap₂ (λ (k j : Check). on_check refused (on_check refused by_room j) k) e f
 
-  pub both_pass : head_check s ≡ Passed → sets_check s ≡ Passed → {a : A} → a ≡ by_room → a ≡ verdict refused otherwise (writing_rows s room)
+  pub both_pass : head_check s ≡ passes → sets_check s ≡ passes → {a : A} → a ≡ by_room → a ≡ verdict refused otherwise (writing_rows s room)
   both_pass e f r = r ∙ sym (by_checks ∙ ap₂ (λ (k j : Check). on_check refused (on_check refused by_room j) k) e f)
 
 -- ---- a whole sheet, stored
@@ -72,25 +71,25 @@ module _ (s : Sheet) (e : length s.sets ≡ s.commands * s.states) (out : List �
 
   -- there is no room: the answer, and the output as it was
   pub no_room : length out < sets_at + set_width * length s.sets
-      → (Refused (record { number = 9; place = sets_at + set_width * length s.sets }) ≡ writing_by (room_row s (length out) ∷ []) s) × (out ≡ written_by (room_row s (length out) ∷ []) s out)
+      → (◌≡◌ {A = Writing} (Err (refusal Output (sets_at + set_width * length s.sets))) (writing_by (room_row s (length out) ∷ []) s)) × (out ≡ written_by (room_row s (length out) ∷ []) s out)
   unfolding verdict
   no_room h =
       let t = lt-ltb (length out) (length_for s.states s.commands) (omega (arith, h, needed)) in
-      (ap (λ (n : ℕ). Refused (record { number = 9; place = n })) needed ∙ simp t, simp t)
+      (ap (λ (n : ℕ). Err (refusal Output n)) needed ∙ simp t, simp t)
 
   pub room : sets_at + set_width * length s.sets ≤ length out
-      → (Written (sets_at + set_width * length s.sets) ≡ writing_by (room_row s (length out) ∷ []) s)
+      → (Ok (sets_at + set_width * length s.sets) ≡ writing_by (room_row s (length out) ∷ []) s)
       × (sets (sets out 0 (head_bytes s.states s.commands s.initial s.goal)) sets_at (bytes_of_each set_width s.sets) ≡ written_by (room_row s (length out) ∷ []) s out)
   unfolding verdict
   room h =
       let l : length_for s.states s.commands ≤ length out = omega (arith, h, needed) in
       let t = le-ltb (length out) (length_for s.states s.commands) l in
-      (ap Written needed ∙ simp t, sheet-stored s e out l ∙ simp t)
+      (ap Ok needed ∙ simp t, sheet-stored s e out l ∙ simp t)
 
 -- ---- by a check of all the rows: answer, refusal and output are ends of one `verdict`
 
-pub writing-by : (s : Sheet) (room : ℕ) → writing s room ≡ on_check Refused (Written (length_for s.states s.commands)) (verdict Failed Passed (writing_rows s room))
-writing-by s room = by_check Refused (Written (length_for s.states s.commands)) (writing_rows s room)
+pub writing-by : (s : Sheet) (room : ℕ) → writing s room ≡ on_check Err (Ok (length_for s.states s.commands)) (check (writing_rows s room))
+writing-by s room = by_check Err (Ok (length_for s.states s.commands)) (writing_rows s room)
 
-pub written-by : (s : Sheet) (out : List ℕ) → written s out ≡ on_check (λ _. out) (encode s ++ drop (length_for s.states s.commands) out) (verdict Failed Passed (writing_rows s (length out)))
+pub written-by : (s : Sheet) (out : List ℕ) → written s out ≡ on_check (λ _. out) (encode s ++ drop (length_for s.states s.commands) out) (check (writing_rows s (length out)))
 written-by s out = by_check (λ _. out) (encode s ++ drop (length_for s.states s.commands) out) (writing_rows s (length out))

@@ -1,14 +1,12 @@
 -- `decimal::after_fields` meets its contract.
-use mathlib.Core.Path.{refl}
-use native.Mathlib.Omega.{arith}
-use Rattle.decimal.proofs.Turns.{counted_none, counted_on, counted_all}
+use Rattle.std.proofs.Common.{ap, length, arith}
+use Rattle.decimal.proofs.Turns.{no_bytes, length_more}
 use Rattle.decimal.proofs.after_fields.Goals as goal
 
-pub loop-i-init : goal.loop-i-init
-loop-i-init c = counted_none _ _ (omega arith)
+pub loop-field-init : goal.loop-field-init
+loop-field-init g c = omega (arith, ap length (no_bytes g.N.Number.values_in_turn))
 
-pub loop-i-preserved : goal.loop-i-preserved
-loop-i-preserved c = counted_on c.loop-i.invariant c.loop-i-test.true refl c.after_field-end.ensures
-
-pub returns : goal.returns
-returns c = counted_all c.loop-i.invariant c.loop-i-test.false
+pub loop-field-preserved : goal.loop-field-preserved
+loop-field-preserved g c =
+    let number = g.met.N.Number.converts_to_value _ _ c.into.ensures in
+    omega (arith, length_more g.N.Number.values_in_turn c.args.fields.now c.loop-field.field-index c.loop-field-test.true c.field-item.is number)

@@ -1,13 +1,9 @@
--- `decimal::digits` meets its contract.
-use native.Mathlib.Omega.{arith}
-use Rattle.decimal.proofs.DecimalLaws.{length_small, length_large}
+-- `decimal::digits` meets its contract: a number has one digit more than its logarithm says.
+use Rattle.std.proofs.Common.{◌+◌, ap, ◌∙◌}
+use Rattle.decimal.proofs.DecimalLaws.{length-log}
 use Rattle.decimal.proofs.digits.Goals as goal
 
-pub loop-rest-init : goal.loop-rest-init
-loop-rest-init c = (omega arith, omega arith)
-
-pub loop-rest-preserved : goal.loop-rest-preserved
-loop-rest-preserved c = (omega (arith, length_large c.loop-rest.rest c.loop-rest-test.true), omega arith)
-
 pub returns : goal.returns
-returns c = omega (arith, length_small c.loop-rest.rest c.loop-rest-test.false)
+returns c =
+    let log = c.checked_ilog10 in
+    ap (λ k. k + 1) c.unwrap_or.ensures ∙ length-log c.args.n log.result log.ensures.none log.ensures.power_le log.ensures.next_power_gt

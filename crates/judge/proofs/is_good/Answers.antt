@@ -1,9 +1,9 @@
 -- `judge::is_good` meets its contract: by what the judge's verdict means.
-use Rattle.judge.proofs.Goodness.{says-good, says-refused, not_good}
+use Rattle.std.proofs.Common.{sym, subst}
+use Rattle.meaning.specs.Sets.{Tells}
+use Rattle.judge.specs.Verdicts.{GoodFor}
+use Rattle.judge.proofs.Goodness.{verdict_tells}
 use Rattle.judge.proofs.is_good.Goals as goal
 
-pub returns-in-Good : goal.returns-in-Good
-returns-in-Good c = says-good c.judge-judged.ensures c.in-Good.is
-
-pub returns-in-Refused : goal.returns-in-Refused
-returns-in-Refused c = says-refused c.judge-judged.ensures (not_good c.judge-judged.result.verdict c.in-Refused.is)
+pub returns : goal.returns
+returns c = subst (λ b. Tells b (GoodFor c.args.sheet.now c.args.plan.now)) (sym c.is_ok.ensures.value) (verdict_tells c.judge.ensures)

@@ -4,9 +4,9 @@ use Rattle.line.proofs.PlacedLaws.{end_within}
 use Rattle.line_table.proofs.print.Goals as goal
 
 pub slice_bounds-buffer-end : goal.slice_bounds-buffer-end
-slice_bounds-buffer-end g c = omega (arith, c.put.auto.out, (end_within c.put.ensures c.in-End.is).1)
+slice_bounds-buffer-end g c = omega (arith, c.put.auto.out, (end_within c.put.ensures c.in-Ok.is).1)
 
 pub slice_bounds-write_all-end : goal.slice_bounds-write_all-end
 slice_bounds-write_all-end g c =
-    let h : c.in-End.end ≤ length c.put.new.out = omega (arith, c.put.auto.out, (end_within c.put.ensures c.in-End.is).1) in
-    sym (length-take-le c.in-End.end c.put.new.out h)
+    let h : c.in-Ok.end ≤ length c.put.new.out = omega (arith, c.put.auto.out, (end_within c.put.ensures c.in-Ok.is).1) in
+    sym (length-take-le c.in-Ok.end c.put.new.out h)

@@ -1,13 +1,15 @@
--- `numbers::eight` meets its contract: a number of eight bytes is put together of two of four bytes.
-use mathlib.Core.Path.{refl}
-use mathlib.Core.List.{List}
-use Prim.Native.Nat.{ℕ}
+-- `numbers::eight` meets its contract: the array that is read is a part of the slice.
+use Rattle.std.proofs.Common.{◌≡◌, ◌+◌, ◌-◌, take, drop}
 use native.Mathlib.Omega.{arith}
-use Rattle.numbers.proofs.Numbers.{number_at-add}
-use Rattle.numbers.proofs.Inverse.{bytes-add}
+use Rattle.std.specs.Int.{w64}
+use Rattle.std.proofs.lemmas.Grind.{common_steps}
+use Rattle.numbers.proofs.Conversions.{read_at, bytes_at}
 use Rattle.numbers.proofs.eight.Goals as goal
 
 pub returns : goal.returns
 returns c =
-    let l : List ℕ = c.args.bytes.now in
-    (omega (arith, number_at-add c.args.at 4 4 l c.requires), bytes-add c.args.at 4 4 8 l refl c.four.ensures.2 c.with_four.ensures.2)
+    let at = c.args.at in
+    let l = c.args.bytes.now in
+    let same : c.unwrap.result ≡ take (at + 8 - at) (drop at l) = grind (arith, common_steps) in
+    let read = read_at w64 l c.unwrap.result at (at + 8 - at) (omega arith) (omega arith) same in
+    (omega (arith, read), bytes_at at 8 l c.type_inv.bytes)

@@ -4,8 +4,7 @@ use mathlib.Core.List.{List}
 use Prim.Native.Nat.{ℕ}
 use Rattle.sets.proofs.Values.{stands_for}
 use Rattle.sheet.specs.Sheet.{sheet_with}
-use Rattle.writer.specs.Written.{Wrote}
-use Rattle.writer.specs.declared.Writing.{Writing}
+use Rattle.writer.specs.Written.{Wrote, Writing}
 use Rattle.writer.specs.Written.{values_of as writing_numbers}
 use Rattle.plugin.proofs.potuchlan_write.Goals as goal
 
@@ -16,5 +15,5 @@ with-sets states commands given {before = before} {after} {r} e f = subst₂ (λ
 pub returns : goal.returns
 returns c =
     let a = c.args in
-    let u = with-sets a.states a.commands a.given.now (stands_for c.of_word-initial.ensures) (stands_for c.of_word-goal.ensures) c.write.ensures in
+    let u = with-sets a.states a.commands a.given.now (stands_for c.from.ensures) (stands_for c.from-2.ensures) c.write.ensures in
     record { answer_after = c.write_numbers.ensures ∙ ap writing_numbers u.answer; out_after = u.output }

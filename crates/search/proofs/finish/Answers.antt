@@ -1,14 +1,10 @@
 -- `search::finish` meets its contract: where a plan was found it was read back, and the plan buffer kept its length.
-use mathlib.Core.Path.{◌≡◌, ap, ◌∙◌}
-use Prim.Native.Nat.{ℕ}
-use native.Mathlib.Omega.{arith}
-use Rattle.explore.specs.Turns.{ends_plan}
+use Rattle.std.proofs.Common.{ap, ◌∙◌, ℕ}
 use Rattle.search.specs.Endings.{with_plan}
 use Rattle.search.proofs.AnswerLaws.{finished_with}
 use Rattle.search.proofs.finish.Goals as goal
 
-pub returns : goal.returns
-returns c =
-    let plan : c.args.t.kind ≡ ends_plan = omega arith in
-    finished_with plan c.read_back-length.ensures
-    (c.with_plan.ensures ∙ ap (λ (n : ℕ). with_plan c.args.t.count c.read_back-length.result n) c.read_back-length.auto.plan)
+pub returns-in-Plan : goal.returns-in-Plan
+returns-in-Plan c =
+    finished_with c.in-Plan.is c.read_back-length.ensures
+    (c.with_plan.ensures ∙ ap (λ (n : ℕ). with_plan c.args.end.count c.read_back-length.result n) c.read_back-length.auto.plan)

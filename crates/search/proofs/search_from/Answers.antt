@@ -3,7 +3,7 @@ use Rattle.search.proofs.EndLaws.{can_read, done}
 use Rattle.search.proofs.search_from.Goals as goal
 
 pub finish-requires : goal.finish-requires
-finish-requires c = can_read c.explore-t.ensures.ended
+finish-requires c = can_read c.explore-end.ensures.ended
 
 pub returns : goal.returns
-returns c = done c.explore-t.ensures c.finish.ensures
+returns c = done c.explore-end.ensures c.finish.ensures

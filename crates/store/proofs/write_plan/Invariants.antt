@@ -1,9 +1,6 @@
--- `store::write_plan` meets its contract. The loop's invariant: what is written and what is left to write. The measure is how many commands are left.
+-- `store::write_plan` meets its contract. The loop's invariant: what is written and what is left to write.
 use Rattle.store.proofs.PathLaws.{Writing}
 use Rattle.store.proofs.write_plan.Given as goal
 
 abbrev pub invariant-loop-left : goal.invariant-loop-left
 invariant-loop-left l = Writing l.store l.at l.total l.fn.plan l.plan l.i l.left
-
-abbrev pub decreases-loop-left : goal.decreases-loop-left
-decreases-loop-left l = l.left

@@ -9,4 +9,4 @@ use Rattle.writer.proofs.put_set.Goals as goal
 pub returns : goal.returns
 returns c =
     let a = c.args in
-    c.put_eight.ensures ∙ ap (λ (x : ℕ). sets a.out.now a.at (bytes_of set_width x)) c.to_word.ensures
+    c.put_eight.ensures ∙ ap (λ (x : ℕ). sets a.out.now a.at (bytes_of set_width x)) c.from.ensures

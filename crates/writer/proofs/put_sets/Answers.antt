@@ -18,24 +18,22 @@ kept before bytes e = ap length e ∙ length-sets before sets_at bytes
 
 pub loop-i-init : goal.loop-i-init
 unfolding laid
-loop-i-init c = (omega arith, refl)
+loop-i-init c = refl
 
 pub put_set-requires : goal.put_set-requires
-put_set-requires c = omega (arith, kept c.args.out.now (laid (map (field set_width) (take c.loop-i.i c.args.given.now))) c.loop-i.invariant.1)
+put_set-requires c = omega (arith, kept c.args.out.now (laid (map (field set_width) (take c.loop-i.i c.args.given.now))) c.loop-i.invariant)
 
 pub loop-i-preserved : goal.loop-i-preserved
 loop-i-preserved c =
-    let a = c.args in (
-      omega arith,
-      c.put_set.ensures
-          ∙ ap (λ (x : ℕ). sets c.loop-i.out (sets_at + set_width * c.loop-i.i) (bytes_of set_width x)) (stands_for c.given_set.ensures)
-          ∙ set-stored a.out.now sets_at a.given.now c.loop-i.i c.loop-i-test.true c.loop-i.invariant.1,
-    )
+    let a = c.args in
+    c.put_set.ensures
+    ∙ ap (λ (x : ℕ). sets c.loop-i.out (sets_at + set_width * c.loop-i.i) (bytes_of set_width x)) (stands_for c.given_set.ensures)
+    ∙ set-stored a.out.now sets_at a.given.now c.loop-i.i c.loop-i-test.true c.loop-i.invariant
 
 pub shape_of-out : goal.shape_of-out
-shape_of-out c = kept c.args.out.now (laid (map (field set_width) (take c.loop-i.i c.args.given.now))) c.loop-i.invariant.1
+shape_of-out c = kept c.args.out.now (laid (map (field set_width) (take c.loop-i.i c.args.given.now))) c.loop-i.invariant
 
 pub returns : goal.returns
 returns c =
     let a = c.args in
-    c.loop-i.invariant.1 ∙ ap (λ (xs : List ℕ). sets a.out.now sets_at (laid (map (field set_width) xs))) (take_all c.loop-i.i a.given.now c.loop-i-test.false) ∙ ap (λ (b : List ℕ). sets a.out.now sets_at b) (laid_sets a.given.now)
+    c.loop-i.invariant ∙ ap (λ (xs : List ℕ). sets a.out.now sets_at (laid (map (field set_width) xs))) (take_all c.loop-i.i a.given.now c.loop-i-test.false) ∙ ap (λ (b : List ℕ). sets a.out.now sets_at b) (laid_sets a.given.now)
