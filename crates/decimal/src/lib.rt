@@ -1,5 +1,5 @@
-// Numbers in decimal as bytes in a lent buffer: a number alone, a field (a blank and a number), and fields one after another. Kept by hand for the reason that
-// `line` gives.
+// Numbers in decimal as bytes in a lent buffer: a number alone, a field (a blank and a number), and fields one after another. Kept by hand, and
+// buffer and place kept apart, for the reasons that `line` gives.
 #![tactic(auto)]
 
 ghost use Rattle.std.specs.Prelude.{◌≡◌, ℕ, List, ◌∷◌, ◌+◌, ◌≤◌, length, map};

@@ -102,7 +102,12 @@ impl<'a> Exploration<'a> {
                 count,
             });
         }
-        put(store, count, set, i as u32, command as u8);
+        let node = Node {
+            set,
+            parent: i as u32,
+            command: command as u8,
+        };
+        put(store, count, node);
         self.stored(set, count + 1)
     }
 
@@ -153,7 +158,12 @@ pub fn explore(scanner: Scanner, start: Set, goal: Set, store: &mut [Node]) -> E
             count: 0,
         };
     }
-    put(store, 0, start, 0, 255);
+    let first = Node {
+        set: start,
+        parent: 0,
+        command: 255,
+    };
+    put(store, 0, first);
     let exploration = Exploration {
         scanner,
         goal,

@@ -2,7 +2,7 @@
 use mathlib.Core.Path.{◌≡◌, refl, sym, ap, ◌∙◌}
 use mathlib.Core.Logic.{◌↔◌}
 use mathlib.Core.Bool.{true≢false}
-use mathlib.Core.List.{List}
+use mathlib.Core.List.{List, []}
 use Prim.Native.Nat.{ℕ}
 use Rattle.std.specs.Prelude.{Result, Ok, Err, ⊤}
 use Rattle.std.specs.Result.{is_ok}
@@ -18,7 +18,8 @@ use Rattle.sheet.specs.declared.Head.{Head}
 use Rattle.sheet.specs.declared.Refusal.{Refusal}
 use Rattle.sheet.proofs.DomainLaws.{domain_well_formed, initial-start}
 use Rattle.judge.specs.declared.Judged.{Judged}
-use Rattle.judge.specs.Verdicts.{verdict_of, JudgedBy, GoodFor}
+use Rattle.std.specs.Borrow.{Bor}
+use Rattle.judge.specs.Verdicts.{verdict_of, JudgedBy, GoodFor, ChoiceOf, BetterOf}
 
 good_is : (v : Result ⊤ Refusal) → verdict_of v ≡ answers.good → v ≡ Ok tt
 good_is (Ok u) e = refl
@@ -53,3 +54,11 @@ module _ {l p : List ℕ} {j : Judged} (u : JudgedBy l p j) where
       go : (v : Result ⊤ Refusal) → j.verdict ≡ v → Tells (is_ok v) (GoodFor l p)
       go (Ok u) e = record { if_true = λ _. good_iff_runs.0 e; if_false = λ q. absurd (true≢false q) }
       go (Err f) e = record { if_true = λ q. absurd (true≢false (sym q)); if_false = λ _ g. let q = good_iff_runs.1 g in cc }
+
+-- where neither plan is chosen, the first's empty start is what is handed back
+pub hands_nothing : (l : List ℕ) (a b : Bor (List ℕ)) {c : ℕ} → ChoiceOf l a.now b.now c → {r : Bor (List ℕ)} → ¬ (c ≡ 1) → ¬ (c ≡ 2) → r.now ≡ [] → r.ref_ptr ≡ a.ref_ptr → BetterOf l a b r
+hands_nothing l a b u n m e p = record {
+  first = λ g h. absurd (n (u.first g h));
+  second = λ g h. absurd (m (u.second g h));
+  neither = λ _ _. (e, p);
+}

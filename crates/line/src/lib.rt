@@ -29,6 +29,11 @@ pub struct Short {
 }
 
 impl fmt::Display for Short {
+    ghost use Rattle.std.specs.Prelude.{Some};
+    ghost use Rattle.line.specs.Text.{short_text};
+
+    ghost output = { λ e. Some (short_text e) };
+
     fn fmt<W: fmt::Write>(&self, f: &mut fmt::Formatter<W>) -> fmt::Result {
         let needed = self.needed;
         write!(f, "the buffer is too short: {needed} bytes are needed")

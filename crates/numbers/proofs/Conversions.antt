@@ -3,10 +3,10 @@
 use mathlib.Core.Path.{◌≡◌, refl, sym, ap, ap₂, ◌∙◌}
 use mathlib.Core.List.{List, [], ◌∷◌, ◌++◌, append_assoc}
 use Prim.Native.Nat.{ℕ, zero, suc, ◌+◌, ◌-◌, ◌*◌, ◌/◌, ◌%◌, ◌^◌, ◌≤◌}
-use native.Mathlib.Nat.{div-one, sub-zero, suc-sub-suc}
+use native.Mathlib.Nat.{div-one, sub-zero, suc-sub-suc, zero-add, suc-add}
 use native.Mathlib.Omega.{arith}
 use lib.ListN.{length, take, drop}
-use lib.Seq.{sets, sets-eq, drop-drop}
+use lib.Seq.{sets, sets-eq, drop-drop, take_all}
 use borrow.Rule.Slice.PartMut.{put_mid}
 use Rattle.std.specs.Int.{Width, w8, w16, w32, w64, w128, byte_len, byte_worth, bytes_high_first, sum_through, from_be_bytes}
 use Rattle.std.specs.List.{slice_index}
@@ -72,3 +72,16 @@ copied l ys at j k x h i e =
     let long : length (bytes_of k x) ≡ k = length-bytes k x in
     let end : drop j (drop at l) ≡ drop (at + length (bytes_of k x)) l = drop-drop j at l ∙ ap (λ (m : ℕ). drop (at + m) l) (i ∙ sym long) in
     ap₂ (λ (a b : List ℕ). take at l ++ (a ++ b)) (e ∙ high_first-bytes k x) end ∙ sym (append_assoc (take at l) (bytes_of k x) (drop (at + length (bytes_of k x)) l)) ∙ sym (sets-eq (bytes_of k x) l at (omega arith))
+
+-- the last k bytes of several
+last_bytes : (j k n : ℕ) → drop j (bytes_high_first (j + k) n) ≡ bytes_high_first k n
+last_bytes zero k n = ap (λ (m : ℕ). bytes_high_first m n) (zero-add k)
+last_bytes (suc j) k n = ap (λ (m : ℕ). drop (suc j) (bytes_high_first m n)) (suc-add j k) ∙ last_bytes j k n
+
+-- the last k of the eight bytes of x, cut off and copied
+pub copied_last : (l ys b : List ℕ) (at j k x t i : ℕ) → at + k ≤ length l → j ≡ k → k ≤ 8 → i ≡ 8 - k → k ≤ t → b ≡ bytes_high_first 8 x → ys ≡ take t (drop i b) → put_mid at j l ys ≡ sets l at (bytes_of k x)
+copied_last l ys b at j k x t i h e f d more eb ey =
+    let eight : 8 ≡ i + k = omega (arith, f, d) in
+    let last : drop i b ≡ bytes_high_first k x = ap (drop i) (eb ∙ ap (λ (m : ℕ). bytes_high_first m x) eight) ∙ last_bytes i k x in
+    let long : length (bytes_high_first k x) ≡ k = ap length (high_first-bytes k x) ∙ length-bytes k x in
+    copied l ys at j k x h e (ey ∙ ap (take t) last ∙ take_all t (bytes_high_first k x) (omega (arith, long, more)))

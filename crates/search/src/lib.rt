@@ -82,7 +82,7 @@ pub fn search_from(
     finish(&*store, end, plan)
 }
 
-// Searches for the shortest plan of a sheet.
+// Searches for the shortest plan of a sheet. Store and plan buffer are kept apart: C lends each by itself.
 pub fn search(sheet: &[u8], store: &mut [Node], plan: &mut [u8]) -> Answer
     ensures { SheetSearched sheet.now store.old store.new plan.old plan.new result }
 {

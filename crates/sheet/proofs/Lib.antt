@@ -14,3 +14,4 @@ pub mod DomainLaws
 pub mod Bench
 pub mod EachSet
 pub mod Reasons
+pub mod Pieces

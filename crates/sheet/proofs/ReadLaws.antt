@@ -17,7 +17,6 @@ use Rattle.sheet.specs.Answers.{Reading}
 use Rattle.sheet.specs.declared.Counted.{Counted}
 use Rattle.sheet.specs.declared.Counted.TheVariants.{Stated}
 use Rattle.std.specs.Prelude.{Ok, Err}
-use Rattle.std.specs.Prelude.{Ok, Err}
 use Rattle.numbers.proofs.Numbers.{number_at_one}
 use Rattle.sheet.proofs.Rows.{on_check, checked, by_check, passes_here, passes_rest, product, most}
 

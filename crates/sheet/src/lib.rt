@@ -45,20 +45,20 @@ pub struct Head {
 // Why a sheet, a plan or a search is refused: a row of the table of refusals each, in its order.
 #[derive(Clone, Copy, Debug, PartialEq, Eq)]
 pub enum Reason {
-    TooShort,
-    Version,
-    Length,
-    Counts,
-    Uneven,
-    Initial,
-    Goal,
-    Following,
-    Output,
-    NoCommand,
-    NotSendable,
-    OutsideGoal,
-    NoRoom,
-    LongPlan,
+    TooShort = 1,
+    Version = 2,
+    Length = 3,
+    Counts = 4,
+    Uneven = 5,
+    Initial = 6,
+    Goal = 7,
+    Following = 8,
+    Output = 9,
+    NoCommand = 10,
+    NotSendable = 11,
+    OutsideGoal = 12,
+    NoRoom = 13,
+    LongPlan = 14,
 }
 
 impl Reason {
@@ -66,22 +66,7 @@ impl Reason {
     pub fn number(self) -> u8
         ensures { result ≡ number_of self }
     {
-        match self {
-            Reason::TooShort => 1,
-            Reason::Version => 2,
-            Reason::Length => 3,
-            Reason::Counts => 4,
-            Reason::Uneven => 5,
-            Reason::Initial => 6,
-            Reason::Goal => 7,
-            Reason::Following => 8,
-            Reason::Output => 9,
-            Reason::NoCommand => 10,
-            Reason::NotSendable => 11,
-            Reason::OutsideGoal => 12,
-            Reason::NoRoom => 13,
-            Reason::LongPlan => 14,
-        }
+        self as u8
     }
 
     // The refusal for this reason, with its place.
@@ -102,7 +87,13 @@ pub struct Refusal {
     pub place: usize,
 }
 
+// Its number and its place, with a blank between them.
 impl fmt::Display for Refusal {
+    ghost use Rattle.std.specs.Prelude.{Some};
+    ghost use Rattle.sheet.specs.Text.{refusal_text};
+
+    ghost output = { λ f. Some (refusal_text f) };
+
     fn fmt<W: fmt::Write>(&self, f: &mut fmt::Formatter<W>) -> fmt::Result {
         write!(f, "{} {}", self.reason.number(), self.place)
     }
@@ -126,7 +117,7 @@ pub fn set_in(bytes: &[u8], at: usize) -> Set
     Set::from(eight(bytes, at))
 }
 
-// The set at index `i` of those that are given to be written, in words.
+// The set at index `i` of those that are given to be written. They are given in words, as C lends them.
 pub fn given_set(given: &[u64], i: usize) -> Set
     requires { i < length given.now }
     ensures { result ≡ set_for (get_or given.now i 0) }

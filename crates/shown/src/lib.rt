@@ -24,8 +24,8 @@ fn offset_of(length: usize, states: usize, command: usize, state: usize) -> Opti
     }
 }
 
-// The bytes of a following set, by a count of states that the caller has from the head, and no bytes where it is missing. Kept on bytes and numbers, as the
-// first of the two forms of the reading view; `view` has the struct.
+// The bytes of a following set, by a count of states that the caller has from the head, and no bytes where it is missing. Kept on bytes and numbers: the
+// reading view is wanted in both forms, and `view` has the struct.
 pub fn shown_at<'a>(sheet: &'a [u8], states: usize, command: usize, state: usize) -> &'a [u8]
     ensures { IsPart sheet.entry (shown_from sheet.now states command state) (shown_at sheet.now states command state) result }
 {
@@ -35,7 +35,8 @@ pub fn shown_at<'a>(sheet: &'a [u8], states: usize, command: usize, state: usize
     }
 }
 
-// Where these bytes begin in the sheet: at 0 where there are none.
+// Where these bytes begin in the sheet: at 0 where there are none. Kept as numbers, here and in `Span`: C gets the two of `following_span`, and a part of a sheet is
+// placed so where it is empty (`following_from`).
 #[tactic(auto, unfolding(crate::specs::Shown::offset_of, crate::specs::Shown::shown_from))]
 fn shown_from(sheet: &[u8], states: usize, command: usize, state: usize) -> usize
     ensures { result ≡ shown_from sheet.now states command state }

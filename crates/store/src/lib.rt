@@ -4,7 +4,7 @@
 
 ghost use Rattle.std.specs.Prelude.{◌≡◌, ◌<◌, ◌≤◌, length, set as put_at, get_or};
 ghost use Rattle.sets.specs.Words.{set_of};
-ghost use Rattle.store.specs.Nodes.{nothing, node, Found};
+ghost use Rattle.store.specs.Nodes.{nothing, Found};
 ghost use Rattle.store.specs.Paths.{HasPath, LengthOf, WrittenBack, ReadBack};
 
 use sets::Set;
@@ -39,15 +39,11 @@ pub fn node_at(store: &[Node], i: usize) -> Node
 }
 
 // Stores a record at place `i`.
-pub fn put(store: &mut [Node], i: usize, set: Set, parent: u32, command: u8)
+pub fn put(store: &mut [Node], i: usize, node: Node)
     requires { i < length store.old }
-    ensures { store.new ≡ put_at store.old i (node set parent command) }
+    ensures { store.new ≡ put_at store.old i node }
 {
-    store[i] = Node {
-        set,
-        parent,
-        command,
-    };
+    store[i] = node;
 }
 
 // A place among these that holds the set, if one does. It is not inlined: inside the search its loop was not aligned, and took up to 1.8 times as long.

@@ -9,19 +9,19 @@ ghost use Rattle.sheet.specs.Sheet.{sets_at, set_width, head_bytes};
 ghost use Rattle.sheet.specs.Answers.{sheet_of};
 ghost use Rattle.writer.specs.Written.{room_row, writing_by, written_by, Wrote};
 
-use numbers::{put_eight, put_four, put_one};
+use numbers::put;
 use sets::Set;
 use sheet::{
     COMMANDS_AT, Counted, GOAL_AT, Head, INITIAL_AT, Reason, Refusal, SET_WIDTH, SETS_AT, SHORTEST,
     STATED_AT, STATES_AT, check_given, check_head, given_set,
 };
 
-// The bytes of a set.
+// The bytes of a set. Buffer and offset are kept apart, as in `line`.
 fn put_set(out: &mut [u8], at: usize, set: Set)
     requires { at + set_width ≤ length out.old }
     ensures { out.new ≡ stored out.old at (bytes_of set_width (set_of set)) }
 {
-    put_eight(out, at, u64::from(set));
+    put::<SET_WIDTH>(out, at, u64::from(set));
 }
 
 // All that comes before the following sets.
@@ -31,10 +31,10 @@ fn put_head(out: &mut [u8], head: Head)
     ensures { out.new ≡ stored out.old 0 (head_bytes head.states head.commands (set_of head.initial) (set_of head.goal)) }
 {
     let stated = SHORTEST + SET_WIDTH * (head.commands * head.states);
-    put_one(out, 0, 1);
-    put_four(out, STATED_AT, stated as u64);
-    put_one(out, STATES_AT, head.states as u64);
-    put_one(out, COMMANDS_AT, head.commands as u64);
+    put::<1>(out, 0, 1);
+    put::<4>(out, STATED_AT, stated as u64);
+    put::<1>(out, STATES_AT, head.states as u64);
+    put::<1>(out, COMMANDS_AT, head.commands as u64);
     put_set(out, INITIAL_AT, head.initial);
     put_set(out, GOAL_AT, head.goal);
 }

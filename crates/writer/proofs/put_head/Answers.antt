@@ -33,4 +33,4 @@ head_stored states commands initial goal o ea eb ec ed ee ef =
 pub returns : goal.returns
 returns c =
     let a = c.args in
-    head_stored a.head.states a.head.commands (set_of a.head.initial) (set_of a.head.goal) a.out.now c.put_one.ensures c.put_four.ensures c.put_one-2.ensures c.put_one-3.ensures c.put_set.ensures c.put_set-2.ensures
+    head_stored a.head.states a.head.commands (set_of a.head.initial) (set_of a.head.goal) a.out.now c.put.ensures c.put-2.ensures c.put-3.ensures c.put-4.ensures c.put_set.ensures c.put_set-2.ensures

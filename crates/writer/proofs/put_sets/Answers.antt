@@ -1,10 +1,8 @@
 -- `writer::put_sets` meets its contract.
-use mathlib.Core.Path.{◌≡◌, refl, ap, ◌∙◌}
+use mathlib.Core.Path.{refl, ap, ◌∙◌}
 use mathlib.Core.List.{List, map}
 use Prim.Native.Nat.{ℕ, ◌+◌, ◌*◌}
-use native.Mathlib.Omega.{arith}
-use lib.ListN.{length, take}
-use lib.Seq.{sets, length-sets, take_all}
+use lib.Seq.{sets, take_all}
 use Rattle.sets.proofs.Values.{stands_for}
 use Rattle.numbers.specs.Bytes.{bytes_of}
 use Rattle.sheet.specs.Sheet.{sets_at, set_width}
@@ -12,16 +10,9 @@ use Rattle.sheet.proofs.Fields.{field, laid, laid_sets}
 use Rattle.writer.proofs.Stores.{set-stored}
 use Rattle.writer.proofs.put_sets.Goals as goal
 
--- the output keeps its length
-kept : (before : List ℕ) (bytes : List ℕ) {out : List ℕ} → out ≡ sets before sets_at bytes → length out ≡ length before
-kept before bytes e = ap length e ∙ length-sets before sets_at bytes
-
 pub loop-i-init : goal.loop-i-init
 unfolding laid
 loop-i-init c = refl
-
-pub put_set-requires : goal.put_set-requires
-put_set-requires c = omega (arith, kept c.args.out.now (laid (map (field set_width) (take c.loop-i.i c.args.given.now))) c.loop-i.invariant)
 
 pub loop-i-preserved : goal.loop-i-preserved
 loop-i-preserved c =
@@ -29,9 +20,6 @@ loop-i-preserved c =
     c.put_set.ensures
     ∙ ap (λ (x : ℕ). sets c.loop-i.out (sets_at + set_width * c.loop-i.i) (bytes_of set_width x)) (stands_for c.given_set.ensures)
     ∙ set-stored a.out.now sets_at a.given.now c.loop-i.i c.loop-i-test.true c.loop-i.invariant
-
-pub shape_of-out : goal.shape_of-out
-shape_of-out c = kept c.args.out.now (laid (map (field set_width) (take c.loop-i.i c.args.given.now))) c.loop-i.invariant
 
 pub returns : goal.returns
 returns c =
