@@ -1,4 +1,4 @@
--- The table of refusals: each row's condition, number and place, in the table's order, for reading (1 to 8). The first row whose condition holds decides. Writing has rows 4 to 8
+-- The table of refusals: each row's condition, reason and place, in the table's order, for reading (1 to 8). The first row whose condition holds decides. Writing has rows 4 to 8
 -- from here, and row 9 beside them.
 use Rattle.std.specs.Prelude.{Bool, cond, not, ◌||◌, List, [], ◌∷◌, ◌++◌, ℕ, ◌+◌, ◌*◌, ◌^◌, eqb, leb, ltb, length, Result, Ok, Err, ⊤}
 use Rattle.numbers.specs.Bytes.{number_at}
