@@ -41,7 +41,7 @@ fn say_all(rt: &impl Print, rows: &[Row]) -> io::Result<()> {
     Ok(())
 }
 
-// Prints the better of two plans: how long it is, and its first command, or 255 where it has none.
+// Prints the better of two plans: how long it is, and its first command, or 255 where it has none: what is printed is a number.
 fn say_better(
     rt: &impl Print,
     label: &str,
@@ -54,7 +54,8 @@ fn say_better(
     println!(rt; "{label} BETTER {} {command}", plan.len())
 }
 
-// The bytes of a sheet whose following sets are given in words.
+// The bytes of a sheet whose following sets are given in words. `search_table` has its own for two states: a program shares with another what a library has, and no
+// library makes sheets for tests alone.
 fn sheet<const BYTES: usize, const SETS: usize>(
     states: usize,
     initial: u64,

@@ -1,5 +1,6 @@
 // The printed line as bytes in a lent buffer: one of five words, decimal fields with a blank before each, and a line feed.
-// They are put here and by no `Display`: each contract names every byte, and the library says which bytes a format writes to a `String` alone, on the heap.
+// They are put here and by no `Display`: each contract names every byte, and what a format writes into a lent buffer the library does not say. A writer of our own
+// that said it would put each byte as these functions do.
 #![tactic(auto)]
 
 ghost use Rattle.std.specs.Prelude.{◌≡◌, [], ◌∷◌, ◌++◌, ◌+◌, ◌≤◌, length};
@@ -77,7 +78,8 @@ fn put_parts(out: &mut [u8], at: usize, word: &[u8], fields: &[u64], commands: &
     put_word(out, end, b"\n");
 }
 
-// A line of any word, fields and commands, at a place of the buffer: where it ends. Too short a buffer stays as it is.
+// A line of any word, fields and commands, at a place of the buffer: where it ends. Too short a buffer stays as it is. The three stay apart: a struct of them would be
+// taken apart again in each function.
 pub fn put_row(
     word: &[u8],
     fields: &[u64],

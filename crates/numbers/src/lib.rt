@@ -5,7 +5,8 @@ ghost use Rattle.std.specs.Prelude.{◌≡◌, ◌+◌, ◌*◌, ◌^◌, ◌≤
 ghost use Rattle.std.proofs.lemmas.List.Edits.{sets as stored};
 ghost use Rattle.numbers.specs.Bytes.{part, number_at, bytes_of, AreBytes};
 
-// The number in four bytes, and in eight. What was read was bytes. Kept as two functions: std has no trait over the conversions of u32 and u64.
+// The number in four bytes, and in eight. What was read was bytes. Kept as two functions: one over the width would first copy the bytes
+// into an array of eight, and each of these is one expression.
 pub fn four(bytes: &[u8], at: usize) -> u64
     requires { at + 4 ≤ length bytes.now }
     ensures { (result ≡ number_at at 4 bytes.now) × (result < 256 ^ 4) × AreBytes (part at 4 bytes.now) }

@@ -18,7 +18,7 @@ use sets::Set;
 use sheet::{Head, Refusal};
 use store::Node;
 
-// The numbers of an answer.
+// The numbers of an answer. These four stay arrays of numbers: C takes no enum.
 fn read_numbers(reading: Result<Head, Refusal>) -> [u64; 6]
     ensures { result ≡ reading_numbers reading }
 {

@@ -9,6 +9,7 @@ use line::{Line, Short};
 use search::{Answer, Verdict};
 use sheet::{Reason, Refusal};
 
+// How many bytes the plan buffer has, which is made here and not on a heap: the scope names the number.
 const PLACES: usize = 4096;
 
 // The line of a refusal: that of no room and that of too long a plan have words of their own.

@@ -25,6 +25,7 @@ fn read_full<R: Read>(from: &mut R, buffer: &mut [u8]) -> io::Result<usize>
     Ok(done)
 }
 
+// The arrays are fixed memory, and no heap; what they hold is cut to a slice at once.
 fn main(rt: HostRuntime) -> io::Result<()> {
     let mut input = [0u8; 16408];
     let n = read_full(&mut rt.stdin(), &mut input)?;

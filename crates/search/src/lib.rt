@@ -22,7 +22,7 @@ pub enum Verdict {
     Refused(Refusal),
 }
 
-// What a search answers: how many sets it found, and how long its plan is.
+// What a search answers: how many sets it found, and how long its plan is. The length stands beside the verdict: `Done` names one for every verdict, and so does C.
 #[derive(Clone, Copy, Debug, PartialEq, Eq)]
 pub struct Answer {
     pub verdict: Verdict,

@@ -75,7 +75,7 @@ fn say_all(rt: &impl Print, rows: &[Row]) -> io::Result<()> {
     Ok(())
 }
 
-// The bytes of a sheet of two states, whose SETS following sets are given in words.
+// The bytes of a sheet of two states, whose SETS following sets are given in words. `judge_table` says why each has its own.
 fn sheet<const BYTES: usize, const SETS: usize>(
     initial: u64,
     goal: u64,

@@ -56,7 +56,7 @@ pub fn set_at(sheet: &[u8], states: usize, command: usize, state: usize) -> Set
     }
 }
 
-// The head of a sheet: one with no states and no commands where it is refused.
+// The head of a sheet: one with no states and no commands where it is refused. No `Option`: the contracts of `states` and `commands`, which never fail, name the zeros.
 pub fn shown_head(sheet: &[u8]) -> Head
     ensures { result ≡ shown_head (reading sheet.now) }
 {

@@ -10,7 +10,7 @@ ghost use Rattle.store.specs.Paths.{HasPath, LengthOf, WrittenBack, ReadBack};
 use sets::Set;
 
 // One place of the store, laid out as C lays it out: a function of the plugin takes a slice of them. Kept as places that name one another by number, with a number
-// of those in use beside the slice: the memory is lent and fixed.
+// of those in use beside the slice: the memory is lent and fixed. Place 0 has parent 0 and command 255, and no `Option`: C sees the records, and the scope names both.
 #[repr(C)]
 #[derive(Clone, Copy)]
 pub struct Node {
