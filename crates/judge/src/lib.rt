@@ -44,7 +44,8 @@ fn first_missing(plan: &[u8], commands: usize) -> Option<usize>
     plan.iter().position(|&c| commands <= usize::from(c))
 }
 
-// Sends the plan's commands from the initial set, up to the first that is not sendable.
+// Sends the plan's commands from the initial set, up to the first that is not sendable. It is not inlined, as `search::search_from` is not.
+#[inline(never)]
 fn walk(scanner: Scanner, plan: &[u8]) -> Result<Set, Blocked>
     ensures { WalkedTo (domain_of scanner.entry) (set_of scanner.entry.head.initial) plan.now result }
 {

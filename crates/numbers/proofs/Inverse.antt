@@ -75,6 +75,12 @@ append-each (x ∷ a) b h k (suc i) = append-each a b (tail_bytes h) k i
 pub bytes-add : (at j k n : ℕ) (l : List ℕ) → j + k ≡ n → AreBytes (part at j l) → AreBytes (part (at + j) k l) → AreBytes (part at n l)
 bytes-add at j k n l e h i = subst AreBytes (sym (part-add at j k l) ∙ ap (λ (m : ℕ). part at m l) e) (record { each = append-each (part at j l) (part (at + j) k l) h i })
 
+pub bytes-upto : (at j k : ℕ) (l : List ℕ) → j ≡ k → AreBytes (part at j l) → AreBytes (part at k l)
+bytes-upto at j k l e h = subst (λ (n : ℕ). AreBytes (part at n l)) e h
+
+pub bytes-none : (at : ℕ) (l : List ℕ) → AreBytes (part at 0 l)
+bytes-none at l = record { each = λ i. omega arith }
+
 pub bytes_one : (at : ℕ) (l : List ℕ) → at < length l → get_or l at 0 < 256 → AreBytes (part at 1 l)
 bytes_one at l h b = subst (λ (r : List ℕ). AreBytes (take 1 r)) (sym (drop-cons l at 0 h)) (record { each = only })
   where

@@ -17,6 +17,7 @@ use Rattle.store.specs.declared.Node.{Node}
 use Rattle.store.specs.Nodes.{node_for}
 use Rattle.explore.specs.Ready.{Ready}
 use Rattle.sheet.specs.declared.Refusal.{Refusal}
+use Rattle.sheet.specs.Refusals.{refusal}
 use Rattle.sheet.proofs.Reasons.{refusal_inj}
 use Rattle.search.specs.Done.{verdict_of, place_of, searched_of, SearchDone, SheetSearched, SearchedHere}
 use Rattle.search.specs.declared.Verdict.{Verdict}
@@ -45,6 +46,24 @@ verdict_inj NoPlan (Refused g) e p = absurd (clash (cc))
 verdict_inj (Refused f) Plan e p = absurd (clash (cc))
 verdict_inj (Refused f) NoPlan e p = absurd (clash (cc))
 verdict_inj (Refused f) (Refused g) e p = ap Refused (refusal_inj f g (refused_inj e) p)
+
+-- a verdict whose refusal, if it is one, is at place k
+abbrev pub at_place : ℕ → Verdict → Verdict
+at_place k Plan = Plan
+at_place k NoPlan = NoPlan
+at_place k (Refused f) = Refused (refusal f.reason k)
+
+-- all of a verdict but the place is told by its number alone
+pub verdict_inj_at : (k : ℕ) (v w : Verdict) → verdict_of v ≡ verdict_of w → at_place k v ≡ at_place k w
+verdict_inj_at k Plan Plan e = refl
+verdict_inj_at k Plan NoPlan e = absurd (clash (cc))
+verdict_inj_at k Plan (Refused g) e = absurd (clash (cc))
+verdict_inj_at k NoPlan Plan e = absurd (clash (cc))
+verdict_inj_at k NoPlan NoPlan e = refl
+verdict_inj_at k NoPlan (Refused g) e = absurd (clash (cc))
+verdict_inj_at k (Refused f) Plan e = absurd (clash (cc))
+verdict_inj_at k (Refused f) NoPlan e = absurd (clash (cc))
+verdict_inj_at k (Refused f) (Refused g) e = ap Refused (refusal_inj (refusal f.reason k) (refusal g.reason k) (refused_inj e) refl)
 
 pub answer_inj : (a b : Answer) (p q : List ℕ) → searched_of a p ≡ searched_of b q → a ≡ b
 answer_inj a b p q e = λ i. record {

@@ -67,7 +67,9 @@ fn finish(store: &[Node], end: End, plan: &mut [u8]) -> Answer
     }
 }
 
-// The engine: searches from any start to any goal, by the head and the bytes of a sheet, over whatever the store held.
+// The engine: searches from any start to any goal, by the head and the bytes of a sheet, over whatever the store held. It is not inlined: behind the tests of
+// reading its loops counted as seldom run, were not aligned, and took up to 1.6 times as long.
+#[inline(never)]
 pub fn search_from(
     scanner: Scanner,
     start: Set,

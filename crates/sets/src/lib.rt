@@ -76,6 +76,13 @@ impl Set {
         }
     }
 
+    // Whether this set and `y` have the same states.
+    pub fn same(self, y: Set) -> bool
+        ensures { Tells result (set_of self ≡ set_of y) }
+    {
+        self.word == y.word
+    }
+
     // Whether this set has no state.
     pub fn is_empty(self) -> bool
         ensures { Tells result (set_of self ≡ sets.empty) }

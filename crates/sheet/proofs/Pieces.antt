@@ -1,10 +1,18 @@
 -- The bytes of a sheet are bytes where those of its parts are.
 -- The idea: parts that stand one after the other are one part.
-use Rattle.std.proofs.Common.{◌≡◌, refl, subst, List, ℕ, ◌+◌, ◌*◌, ◌≤◌, ◌<◌, length, get_or, arith}
+use Rattle.std.proofs.Common.{◌≡◌, refl, sym, ◌∙◌, subst, List, ℕ, ◌+◌, ◌*◌, ◌≤◌, ◌<◌, length, get_or, arith}
+use Rattle.std.specs.Prelude.{Err}
 use lib.Seq.{take_all}
 use Rattle.numbers.specs.Bytes.{part, AreBytes}
 use Rattle.numbers.proofs.Inverse.{bytes_one, bytes-add}
 use Rattle.sheet.specs.Sheet.{sets_at, set_width}
+use Rattle.sheet.specs.Answers.{Reading, BytesIf}
+use Rattle.sheet.specs.declared.Refusal.{Refusal}
+use Rattle.sheet.proofs.Readings.{not_both}
+
+-- a refusal says nothing of them
+pub refused-bytes : {r : Reading} {q : Refusal} {l : List ℕ} → r ≡ Err q → BytesIf r l
+refused-bytes e = record { are_bytes = λ f. absurd (not_both (sym f ∙ e)) }
 
 -- the parts that follow the stated length, with k following sets
 pub bytes-stated : (l : List ℕ) (k : ℕ) {n : ℕ} → n ≡ 18 + set_width * k → 23 ≤ length l → get_or l 5 0 < 256 → get_or l 6 0 < 256 → AreBytes (part 7 set_width l) → AreBytes (part 15 set_width l) → AreBytes (part sets_at (set_width * k) l)

@@ -7,7 +7,7 @@ ghost use Rattle.numbers.specs.Bytes.{part, number_at, AreBytes};
 ghost use Rattle.sheet.specs.Sheet.{sets_at, set_width, from, set_in, sheet_in};
 ghost use Rattle.sheet.specs.Refusals.{missing, outside, uneven_by, head_rows, set_rows, sheet_rows, verdict, check, number_of, refusal};
 ghost use Rattle.sheet.specs.EachSet.{SetsChecked};
-ghost use Rattle.sheet.specs.Answers.{head_of, ReadAs};
+ghost use Rattle.sheet.specs.Answers.{head_of, shown_head, ReadAs};
 
 use numbers::{eight, four};
 use sets::Set;
@@ -252,4 +252,16 @@ pub fn read(sheet: &[u8]) -> Result<Head, Refusal>
         return Err(Reason::Length.at(STATED_AT));
     }
     read_stated(sheet, stated)
+}
+
+// The head of a reading: one with no states and no commands where it is a refusal.
+pub fn head_of(reading: Result<Head, Refusal>) -> Head
+    ensures { result ≡ shown_head reading }
+{
+    reading.unwrap_or(Head {
+        states: 0,
+        commands: 0,
+        initial: Set::empty(),
+        goal: Set::empty(),
+    })
 }

@@ -9,7 +9,7 @@ ghost use Rattle.shown.specs.Following.{following, following_from};
 ghost use Rattle.shown.specs.Shown.{offset_of, shown_at, shown_from};
 
 use sets::Set;
-use sheet::{Head, SET_WIDTH, SETS_AT, read, set_in};
+use sheet::{Head, SET_WIDTH, SETS_AT, head_of, read, set_in};
 
 // The offset of the following set of a command and a state, by the sheet's length, and none where it is missing.
 #[tactic(auto, unfolding(crate::specs::Shown::offset_of, crate::specs::Shown::is_shown))]
@@ -60,12 +60,7 @@ pub fn set_at(sheet: &[u8], states: usize, command: usize, state: usize) -> Set
 pub fn shown_head(sheet: &[u8]) -> Head
     ensures { result ≡ shown_head (reading sheet.now) }
 {
-    read(sheet).unwrap_or(Head {
-        states: 0,
-        commands: 0,
-        initial: Set::empty(),
-        goal: Set::empty(),
-    })
+    head_of(read(sheet))
 }
 
 // How many states and commands a sheet has.

@@ -46,12 +46,11 @@ pub fn put(store: &mut [Node], i: usize, node: Node)
     store[i] = node;
 }
 
-// A place among these that holds the set, if one does. It is not inlined: inside the search its loop was not aligned, and took up to 1.8 times as long.
-#[inline(never)]
+// A place among these that holds the set, if one does.
 pub fn place_of(places: &[Node], set: Set) -> Option<usize>
     ensures { Found places.now (length places.now) (set_of set) result }
 {
-    places.iter().position(|n| n.set == set)
+    places.iter().position(|n| n.set.same(set))
 }
 
 // The length of the plan of place `at`: how many parents there are on the way back to place 0. Kept as a `while`: it goes over no range, but from place to parent.
